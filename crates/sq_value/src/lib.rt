@@ -1,6 +1,15 @@
 //! Values, texts and rows: the data that every other crate of Keltzumba speaks of.
 #![tactic(auto)]
 
+pub mod laws;
 mod memory;
+mod row;
+#[cfg(test)]
+mod tests;
+mod text;
+mod value;
 
 pub use memory::NoMemory;
+pub use row::Row;
+pub use text::Str;
+pub use value::Value;

@@ -1,0 +1,222 @@
+// What no clause says: that memory suffices, that calls succeed, and worked values from outside.
+ghost use Rattle.std.specs.Prelude.{◌≤◌, IfOk};
+
+use crate::{
+    Failed, FreeGate, Gate, MemSink, MemSource, Sink, Source, StdSink, StdSource, put_all,
+};
+use sq_value::NoMemory;
+use std::alloc::{AllocError, Global};
+use std::io;
+use std::io::{ErrorKind, Read, Write};
+use std::process::Abort;
+use std::test::Fail;
+
+const TEXT: &[u8] = b"abcdefg";
+
+fn is_shared<T: Send + Sync + Drop>(_value: T) {}
+
+#[test]
+fn threads_may_share_each(rt: HostRuntime) -> Result<(), Fail> {
+    let alloc = rt.alloc();
+    is_shared(Failed);
+    is_shared(FreeGate);
+    is_shared(MemSource::new(Vec::new(alloc), 1, Vec::new(alloc)));
+    is_shared(MemSink::new(alloc, 1, 1, Vec::new(alloc))?);
+    is_shared(StdSource::new(rt.stdin()));
+    is_shared(StdSink::new(rt.stdout()));
+    is_shared(StdSink::new(rt.stderr()));
+    Ok(())
+}
+
+// The outcome of one call, through the bound.
+fn read_from<S: Source>(source: &mut S, buf: &mut [u8]) -> Result<usize, Failed> {
+    source.read(buf)
+}
+
+fn write_to<K: Sink>(sink: &mut K, bytes: &[u8]) -> Result<usize, Failed> {
+    sink.write(bytes)
+}
+
+// Makes a source of `TEXT` and reads from it, and compares what each call answers.
+fn reads(
+    rt: &impl Abort,
+    alloc: Global,
+    (piece, room): (usize, usize),
+    failing: &[u64],
+    outcomes: &[Result<usize, Failed>],
+) -> Result<(), AllocError> {
+    let bytes = Vec::from_slice(alloc, TEXT)?;
+    let mut source = MemSource::new(bytes, piece, Vec::from_slice(alloc, failing)?);
+    let mut buf = vec![in alloc; 0u8; room]?;
+    for outcome in outcomes {
+        assert_eq!(rt;
+            source.read(&mut buf),
+            *outcome,
+            "piece {piece}, buffer {room}"
+        );
+    }
+    Ok(())
+}
+
+#[test]
+fn a_source_in_memory_gives_its_pieces(rt: HostRuntime) -> Result<(), AllocError> {
+    let alloc = rt.alloc();
+    reads(
+        &rt,
+        alloc,
+        (3, 8),
+        &[],
+        &[Ok(3), Ok(3), Ok(1), Ok(0), Ok(0)],
+    )?;
+    reads(&rt, alloc, (0, 8), &[], &[Ok(1), Ok(1), Ok(1)])?;
+    reads(&rt, alloc, (9, 4), &[], &[Ok(4), Ok(3), Ok(0)])?;
+    reads(&rt, alloc, (9, 8), &[0], &[Err(Failed), Ok(7), Ok(0)])?;
+    reads(
+        &rt,
+        alloc,
+        (4, 8),
+        &[1, 3, 9],
+        &[Ok(4), Err(Failed), Ok(3), Err(Failed), Ok(0)],
+    )?;
+    reads(&rt, alloc, (3, 0), &[1], &[Ok(0), Err(Failed), Ok(0)])
+}
+
+// Makes a sink and hands it "abcd" at each call, compares what each answers, and hands out the sink.
+fn writes(
+    rt: &impl Abort,
+    alloc: Global,
+    (piece, room): (usize, usize),
+    failing: &[u64],
+    outcomes: &[Result<usize, Failed>],
+) -> Result<MemSink, NoMemory> {
+    let mut sink = MemSink::new(alloc, piece, room, Vec::from_slice(alloc, failing)?)?;
+    for outcome in outcomes {
+        assert_eq!(rt; sink.write(b"abcd"), *outcome, "piece {piece}, room {room}");
+    }
+    Ok(sink)
+}
+
+#[test]
+fn a_sink_in_memory_takes_its_pieces(rt: HostRuntime) -> Result<(), NoMemory> {
+    let alloc = rt.alloc();
+    let sink = writes(
+        &rt,
+        alloc,
+        (9, 10),
+        &[],
+        &[Ok(4), Ok(4), Ok(2), Err(Failed)],
+    )?;
+    assert_eq!(rt; sink.taken(), b"abcdabcdab".as_slice());
+    let sink = writes(&rt, alloc, (3, 100), &[], &[Ok(3), Ok(3)])?;
+    assert_eq!(rt; sink.taken(), b"abcabc".as_slice());
+    let sink = writes(&rt, alloc, (0, 2), &[], &[Ok(1), Ok(1), Err(Failed)])?;
+    assert_eq!(rt; sink.taken(), b"aa".as_slice());
+    let sink = writes(
+        &rt,
+        alloc,
+        (3, 4),
+        &[1],
+        &[Ok(3), Err(Failed), Ok(1), Err(Failed)],
+    )?;
+    assert_eq!(rt; sink.taken(), b"abca".as_slice());
+    // Where nothing is handed over no room is needed.
+    let mut sink = writes(&rt, alloc, (3, 0), &[], &[Err(Failed)])?;
+    assert_eq!(rt; sink.write(b""), Ok(0));
+    Ok(())
+}
+
+#[test]
+fn all_is_put_in_order(rt: HostRuntime) -> Result<(), Fail> {
+    let alloc = rt.alloc();
+    let mut sink = MemSink::new(alloc, 3, 1_000_000, vec![in alloc; 3]?)?;
+    assert_eq!(rt; put_all(&mut sink, TEXT), Ok(()));
+    assert_eq!(rt; sink.taken(), TEXT);
+    // No call is made for no bytes: the next one is the fourth, which fails.
+    assert_eq!(rt; put_all(&mut sink, b""), Ok(()));
+    assert_eq!(rt; write_to(&mut sink, b"x"), Err(Failed));
+    Ok(())
+}
+
+#[test]
+fn a_failed_call_is_the_last(rt: HostRuntime) -> Result<(), Fail> {
+    let alloc = rt.alloc();
+    let mut sink = MemSink::new(alloc, 3, 1_000_000, vec![in alloc; 2, 3]?)?;
+    assert_eq!(rt; put_all(&mut sink, b"abcdefgh"), Err(Failed));
+    assert_eq!(rt; sink.taken(), b"abcdef".as_slice());
+    // The calls 0, 1 and 2 were made and no other: the next one is call 3, which fails too.
+    assert_eq!(rt; write_to(&mut sink, b"x"), Err(Failed));
+    assert_eq!(rt; write_to(&mut sink, b"x"), Ok(1));
+    assert_eq!(rt; sink.taken(), b"abcdefx".as_slice());
+    Ok(())
+}
+
+// A stream of std that answers what it is told, one answer a call.
+#[derive(Drop)]
+struct Scripted {
+    answers: &'static [Option<usize>],
+    calls: usize,
+}
+
+impl Scripted {
+    fn answer(&mut self, most: usize) -> io::Result<usize>
+        ensures { IfOk result (λ n. n ≤ most) }
+    {
+        let answer = self.answers.get(self.calls).copied().flatten();
+        self.calls = self.calls.saturating_add(1);
+        match answer {
+            Some(count) => Ok(count.min(most)),
+            None => Err(ErrorKind::Other.into()),
+        }
+    }
+}
+
+impl Read for Scripted {
+    fn read(&mut self, buf: &mut [u8]) -> io::Result<usize> {
+        self.answer(buf.len())
+    }
+}
+
+impl Write for Scripted {
+    fn write(&mut self, buf: &[u8]) -> io::Result<usize> {
+        self.answer(buf.len())
+    }
+
+    fn flush(&mut self) -> io::Result<()> {
+        Ok(())
+    }
+}
+
+#[test]
+fn standard_output_takes_all(rt: HostRuntime) {
+    let text = b"Written by a test of sq_base.\n";
+    assert_eq!(rt; put_all(&mut StdSink::new(rt.stdout()), text), Ok(()));
+}
+
+#[test]
+fn streams_of_std_are_passed_on(rt: HostRuntime) {
+    let answers = &[Some(2), None, Some(0), Some(9)];
+    let mut source = StdSource::new(Scripted { answers, calls: 0 });
+    let mut buf = [0; 4];
+    assert_eq!(rt; read_from(&mut source, &mut buf), Ok(2));
+    assert_eq!(rt; read_from(&mut source, &mut buf), Err(Failed));
+    assert_eq!(rt; read_from(&mut source, &mut buf), Ok(0));
+    assert_eq!(rt; read_from(&mut source, &mut buf), Ok(4));
+
+    let answers = &[Some(2), Some(0), Some(0), None, Some(9)];
+    let mut sink = StdSink::new(Scripted { answers, calls: 0 });
+    assert_eq!(rt; write_to(&mut sink, b"abcd"), Ok(2));
+    // Nothing taken of a piece is a fault, and nothing taken of nothing is none.
+    assert_eq!(rt; write_to(&mut sink, b"abcd"), Err(Failed));
+    assert_eq!(rt; write_to(&mut sink, b""), Ok(0));
+    assert_eq!(rt; put_all(&mut sink, b"abcd"), Err(Failed));
+    assert_eq!(rt; put_all(&mut sink, b"abcd"), Ok(()));
+}
+
+fn pass<G: Gate>(gate: &G) {
+    gate.at(7);
+}
+
+#[test]
+fn a_free_gate_lets_pass() {
+    pass(&FreeGate);
+}

@@ -1,0 +1,85 @@
+// What no clause says: that calls succeed with ample memory, and that the orders are the intended ones.
+use crate::{NoMemory, Row, Str, Value};
+use std::alloc::Global;
+use std::convert::AsStr;
+use std::hash::{DefaultHasher, Hash, Hasher};
+use std::process::Abort;
+use std::test::Fail;
+
+fn hash_of<T: Hash>(item: &T) -> u64 {
+    let mut state = DefaultHasher::new();
+    item.hash(&mut state);
+    state.finish()
+}
+
+fn text_of<T: AsStr>(item: &T) -> &str {
+    item.as_str()
+}
+
+// Each item stands before those that follow it, and is equal to itself alone.
+fn check_ascending<T: Ord + Drop>(rt: &impl Abort, items: Vec<T>) {
+    for (i, a) in items.iter().enumerate() {
+        for (j, b) in items.iter().enumerate() {
+            assert_eq!(rt; a.cmp(b), i.cmp(&j), "at {i} and {j}");
+            assert_eq!(rt; a == b, i == j, "at {i} and {j}");
+            assert_eq!(rt; a < b, i < j, "at {i} and {j}");
+        }
+    }
+}
+
+#[test]
+fn copies_are_equal(rt: HostRuntime) -> Result<(), Fail> {
+    let alloc = rt.alloc();
+    let text = Str::of(alloc, "źdźbło")?;
+    let copy = text.clone_str(alloc)?;
+    assert_eq!(rt; text_of(&text), "źdźbło");
+    assert_eq!(rt; text_of(&copy), "źdźbło");
+    assert_eq!(rt; hash_of(&text), hash_of(&copy));
+
+    let row = Row::of(vec![in alloc; Value::Null, Value::Int(-7), Value::Text(text)]?);
+    let same = row.clone_row(alloc)?;
+    assert_eq!(rt; same.len(), 3);
+    assert!(rt; *same.at(0) == Value::Null);
+    assert!(rt; *same.at(1) == Value::Int(-7));
+    assert!(rt; *same.at(2) == Value::Text(copy));
+    assert!(rt; row == same);
+    assert_eq!(rt; hash_of(&row), hash_of(&same));
+    Ok(())
+}
+
+#[test]
+fn values_go_by_kind_and_size(rt: HostRuntime) -> Result<(), Fail> {
+    let alloc = rt.alloc();
+    let mut values = vec![in alloc; Value::Null]?;
+    for number in [i64::MIN, -10, -9, 0, 9, 10, i64::MAX] {
+        values.push(Value::Int(number))?;
+    }
+    // In UTF-16 the last two would stand the other way round.
+    for text in ["", "B", "a", "aa", "b", "é", "\u{ff21}", "\u{10000}"] {
+        values.push(Value::Text(Str::of(alloc, text)?))?;
+    }
+    check_ascending(&rt, values);
+    Ok(())
+}
+
+fn row_of(alloc: Global, numbers: &[Option<i64>]) -> Result<Row, NoMemory> {
+    let mut values = Vec::new(alloc);
+    for number in numbers {
+        values.push(number.map_or(Value::Null, Value::Int))?;
+    }
+    Ok(Row::of(values))
+}
+
+#[test]
+fn rows_go_column_by_column(rt: HostRuntime) -> Result<(), Fail> {
+    let alloc = rt.alloc();
+    let mut rows = vec![in alloc; row_of(alloc, &[])?]?;
+    rows.push(row_of(alloc, &[None])?)?;
+    rows.push(row_of(alloc, &[None, Some(5)])?)?;
+    rows.push(row_of(alloc, &[Some(1)])?)?;
+    rows.push(row_of(alloc, &[Some(1), None])?)?;
+    rows.push(row_of(alloc, &[Some(1), Some(2)])?)?;
+    rows.push(row_of(alloc, &[Some(2), Some(1)])?)?;
+    check_ascending(&rt, rows);
+    Ok(())
+}
