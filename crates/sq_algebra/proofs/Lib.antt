@@ -1,0 +1,7 @@
+mod Tests
+pub mod Sums
+pub mod Lists
+pub mod Weights
+pub mod Changes
+pub mod Merges
+pub mod Places

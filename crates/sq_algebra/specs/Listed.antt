@@ -1,0 +1,36 @@
+-- Lists in which a key may stand several times: how often it stands there, the keys in order, and the keys by which two lists differ.
+--     count R k xs      the number of places of xs that hold k.    is_ascending R xs      whether each key of xs is below all later ones
+--     in_order R xs     the keys of xs, each once, ascending.      changed R before now   the keys whose counts in the two lists differ, ascending
+use Rattle.std.specs.Prelude.{ℕ, List, [], ◌∷◌, ◌++◌, Bool, true, ◌&&◌, ◌==◌, not}
+use Rattle.std.specs.List.{count_by, filter}
+use Rattle.std.specs.declared.cmp.Ordering.{Ordering}
+use Rattle.std.specs.Ordering.{is_eq, is_lt, match_ordering}
+
+module _ {K : Type 0} (R : K → K → Ordering) where
+  -- the number of places of a list that hold k
+  abbrev pub count : K → List K → ℕ
+  count k xs = count_by (λ x. is_eq (R k x)) xs
+
+  -- whether k is below each key of a list
+  abbrev pub is_below_all : K → List K → Bool
+  is_below_all k [] = true
+  is_below_all k (x ∷ xs) = is_lt (R k x) && is_below_all k xs
+
+  -- whether each key of a list is below all later ones
+  abbrev pub is_ascending : List K → Bool
+  is_ascending [] = true
+  is_ascending (x ∷ xs) = is_below_all x xs && is_ascending xs
+
+  -- an ascending list with k in its place, unless it stands there already
+  abbrev pub place : K → List K → List K
+  place k [] = k ∷ []
+  place k (x ∷ xs) = match_ordering (R k x) (k ∷ x ∷ xs) (x ∷ xs) (x ∷ place k xs)
+
+  -- the keys of a list, each once, ascending
+  abbrev pub in_order : List K → List K
+  in_order [] = []
+  in_order (x ∷ xs) = place x (in_order xs)
+
+  -- the keys whose counts in the two lists differ, ascending
+  abbrev pub changed : List K → List K → List K
+  changed before now = filter (λ k. not (count k before == count k now)) (in_order (before ++ now))

@@ -1,0 +1,89 @@
+-- The difference between two lists of rows, as a Z-set of the program.
+use Rattle.std.specs.Prelude.{◌-ℤ◌, ℤ, pos, map, unsigned_abs}
+use Rattle.std.proofs.Common.{◌≡◌, ℕ, ◌+◌, ◌^◌, ◌≤◌, List, [], ◌∷◌, ◌++◌, length, take, true, Some, None, refl, sym, ap, ap₂, ◌∙◌, arith, append-nil}
+use Rattle.std.specs.List.{flat_map}
+use Rattle.std.specs.Ordering.{is_eq}
+use Rattle.std.proofs.lemmas.Grind.{flat_map-append}
+use Rattle.std.proofs.lemmas.List.{take_more}
+use Rattle.std.proofs.lemmas.List.Folds.{flat_map-map}
+use Rattle.std.proofs.lemmas.List.Sums.{count_by-le-length}
+use Rattle.std.proofs.lemmas.Option.{get_or_from_slice_get, slice_get_within}
+use Rattle.std.specs.Prelude.{slice_get}
+use Rattle.std.proofs.lemmas.Bool.Decides.{nat_tests}
+use borrow.Author.Differences.{ints}
+use Rattle.sq_value.specs.Order.{row_cmp}
+use Rattle.sq_value.specs.OrderLaws.{row_cmp-total, row_cmp-antisymmetric}
+use Rattle.sq_value.specs.Count.{count}
+use Rattle.sq_algebra.specs.Listed.{changed}
+use Rattle.sq_algebra.specs.ZSet.{ZSet, entries, from_pairs, of_list, minus}
+use Rattle.sq_algebra.proofs.Changes.{entries_change}
+use Rattle.sq_algebra.proofs.Weights.{weight-of_list, weight-minus, same_weights}
+use Rattle.sq_zset.specs.Range.{is_in_range, first_outside_in, first_outside}
+use Rattle.sq_top.specs.Ticks.{Row}
+use Rattle.sq_top.specs.Texts.{rise, rise_text}
+
+-- a list counted is its difference from no rows
+of_list_from_none : (rows : List Row) → of_list row_cmp rows ≡ minus (of_list row_cmp rows) (of_list row_cmp [])
+of_list_from_none rows = same_weights row_cmp row_cmp-total row_cmp-antisymmetric _ _ (λ r.
+    sym (weight-minus row_cmp row_cmp-total r (of_list row_cmp rows) (of_list row_cmp [])
+    ∙ ap₂ ◌-ℤ◌ (weight-of_list row_cmp row_cmp-total r rows) (weight-of_list row_cmp row_cmp-total r [])
+    ∙ less_none (count r rows)
+    ∙ sym (weight-of_list row_cmp row_cmp-total r rows))) where
+      less_none : (n : ℕ) → pos n -ℤ pos 0 ≡ pos n
+      less_none n = omega (arith, ints)
+
+abs_difference : (a b n : ℕ) → a ≤ n → b ≤ n → unsigned_abs (pos a -ℤ pos b) ≤ n
+abs_difference a b n ha hb = omega (arith, ints)
+
+in_range_difference : (a b : ℕ) → a ≤ 2 ^ 62 → b ≤ 2 ^ 62 → is_in_range (pos a -ℤ pos b) ≡ true
+in_range_difference a b ha hb = let le = abs_difference a b (2 ^ 62) ha hb in grind (arith, nat_tests)
+
+none_outside : (f : Row → ℤ) → ((r : Row) → is_in_range (f r) ≡ true) → (rows : List Row) → first_outside_in (map (λ r. (r, f r)) rows) ≡ None
+none_outside f good [] = refl
+none_outside f good (r ∷ rows) = rw (good r) (none_outside f good rows)
+
+-- no weight of a difference of two lists that are not too long lies outside the range
+pub change_in_range : (before now : List Row) → length before ≤ 2 ^ 62 → length now ≤ 2 ^ 62
+    → first_outside (minus (of_list row_cmp now) (of_list row_cmp before)) ≡ None
+change_in_range before now few_before few_now =
+    ap first_outside_in (entries_change row_cmp row_cmp-total row_cmp-antisymmetric before now)
+    ∙ none_outside (λ r. pos (count r now) -ℤ pos (count r before))
+    (λ r. in_range_difference (count r now) (count r before)
+    (omega (arith, few_now, count_by-le-length (λ s. is_eq (row_cmp r s)) now)) (omega (arith, few_before, count_by-le-length (λ s. is_eq (row_cmp r s)) before)))
+    (changed row_cmp before now)
+
+pub rows_in_range : (rows : List Row) → length rows ≤ 2 ^ 62 → first_outside (of_list row_cmp rows) ≡ None
+rows_in_range rows few = ap first_outside (of_list_from_none rows) ∙ change_in_range [] rows (omega arith) few
+
+-- the text of one more entry
+pub text_more : (f : Row × ℤ → List ℕ) (es : List (Row × ℤ)) (i : ℕ) (e : Row × ℤ) → slice_get es i ≡ Some e
+    → flat_map f (take i es) ++ f e ≡ flat_map f (take (i + 1) es)
+text_more f es i e at =
+    sym (ap (flat_map f) (take_more es i e (slice_get_within es i e at) ∙ ap (λ x. take i es ++ x ∷ []) (get_or_from_slice_get es i e e at))
+    ∙ flat_map-append f (take i es) (e ∷ []) ∙ ap (λ t. flat_map f (take i es) ++ t) (append-nil (f e)))
+
+pub text_of_change : (before now : List Row) (es : List (Row × ℤ)) → es ≡ map (λ r. (r, rise before now r)) (changed row_cmp before now)
+    → flat_map (λ (e : Row × ℤ). rise_text e.0 e.1) es ≡ flat_map (λ r. rise_text r (rise before now r)) (changed row_cmp before now)
+text_of_change before now es e =
+    ap (flat_map (λ (e : Row × ℤ). rise_text e.0 e.1)) e ∙ flat_map-map (λ (e : Row × ℤ). rise_text e.0 e.1) (λ r. (r, rise before now r)) (changed row_cmp before now)
+
+-- pairs of weight 1 add up to the counts of their rows
+pub counted : (pairs : List (Row × ℤ)) (rows : List Row) → pairs ≡ map (λ r. (r, pos 1)) rows → from_pairs row_cmp pairs ≡ of_list row_cmp rows
+unfolding of_list
+counted pairs rows e = ap (from_pairs row_cmp) e
+
+-- so no weight of theirs lies outside the range
+pub counted_in_range : (pairs : List (Row × ℤ)) (rows : List Row) (sum : ℤ) → pairs ≡ map (λ r. (r, pos 1)) rows → length rows ≤ 2 ^ 62
+    → first_outside (from_pairs row_cmp pairs) ≡ Some sum → ⊥
+counted_in_range pairs rows sum e few outside =
+    let none : first_outside (from_pairs row_cmp pairs) ≡ None = ap first_outside (counted pairs rows e) ∙ rows_in_range rows few in cc
+
+pub changed_in_range : (old new : ZSet Row row_cmp) (before now : List Row) (sum : ℤ) → old ≡ of_list row_cmp before → new ≡ of_list row_cmp now
+    → length before ≤ 2 ^ 62 → length now ≤ 2 ^ 62 → first_outside (minus new old) ≡ Some sum → ⊥
+changed_in_range old new before now sum e f few_before few_now outside =
+    let none : first_outside (minus new old) ≡ None = ap₂ (λ y z. first_outside (minus y z)) f e ∙ change_in_range before now few_before few_now in cc
+
+pub change_entries : (old new change : ZSet Row row_cmp) (before now : List Row) → old ≡ of_list row_cmp before → new ≡ of_list row_cmp now
+    → change ≡ minus new old → entries change ≡ map (λ r. (r, rise before now r)) (changed row_cmp before now)
+change_entries old new change before now e f g =
+    ap entries (g ∙ ap₂ minus f e) ∙ entries_change row_cmp row_cmp-total row_cmp-antisymmetric before now

@@ -1,0 +1,10 @@
+mod Members
+mod JsonOf
+mod Places
+mod LineLemmas
+mod RowLemmas
+mod Reports
+mod Going
+mod Reading
+mod ChangeLemmas
+mod SumLemmas

@@ -1,0 +1,9 @@
+pub mod Lines
+pub mod ChangeLines
+pub mod Ticks
+pub mod Outcomes
+pub mod Texts
+pub mod Output
+pub mod Runs
+pub mod Statuses
+pub mod Sums

@@ -1,0 +1,65 @@
+-- What each status of a run says of the objects that it was handed.
+use Rattle.std.specs.Prelude.{◌≡◌, ℕ, ◌<◌, ◌≤◌, List, [], length, take, true, false, Option, IfSome, ⊤, codes}
+use Rattle.std.specs.Io.KnownBytes.{Appends, Keeps, IsAtEnd}
+use Rattle.sq_base.specs.Causes.{Rose}
+use Rattle.sq_top.specs.Lines.{lines_of, lines_after_end}
+use Rattle.sq_top.specs.Output.{is_accepted, has_refusal, output, reports, texts_from}
+use Rattle.sq_top.specs.declared.statuses.Status.{Status}
+use Rattle.sq_top.specs.declared.statuses.Status.TheVariants.{Done, Usage, DoneWithRefusals, BadProgram, ReadFault, WriteFault, NoMemory, TooLong}
+
+-- the whole output was written
+abbrev pub IsFinished : Status → Type 0
+IsFinished Done = ⊤
+IsFinished DoneWithRefusals = ⊤
+IsFinished _ = ⊥
+
+-- the input was read to its end
+abbrev pub IsRead : Status → Type 0
+IsRead Done = ⊤
+IsRead DoneWithRefusals = ⊤
+IsRead BadProgram = ⊤
+IsRead WriteFault = ⊤
+IsRead _ = ⊥
+
+-- nothing was written
+abbrev pub IsUnwritten : Status → Type 0
+IsUnwritten Usage = ⊤
+IsUnwritten BadProgram = ⊤
+IsUnwritten ReadFault = ⊤
+IsUnwritten TooLong = ⊤
+IsUnwritten _ = ⊥
+
+-- What a status says of the source, by the bytes that it had left before and has left now, where it tells them, and its
+-- counts of faults.
+pub record Reads (limit : ℕ) (left now : Option (List ℕ)) (before after : ℕ) (status : Status) : Type 0 where
+  pub to_end : IsRead status → IsAtEnd now
+  pub within : IsRead status → IfSome left (λ input. length input ≤ limit)
+  pub too_long : status ≡ TooLong → IfSome left (λ input. limit < length input)
+  pub fault : status ≡ ReadFault → Rose before after
+
+-- What a status says of the input.
+pub record Judges (left : Option (List ℕ)) (status : Status) : Type 0 where
+  pub bad : status ≡ BadProgram → IfSome left (λ input. is_accepted input ≡ false)
+  pub written : status ≡ WriteFault → IfSome left (λ input. is_accepted input ≡ true)
+  pub done : status ≡ Done → IfSome left (λ input. (is_accepted input ≡ true) × (has_refusal input ≡ false))
+  pub refusals : status ≡ DoneWithRefusals → IfSome left (λ input. (is_accepted input ≡ true) × (has_refusal input ≡ true))
+
+-- What a status says of the sink for the output: it took the whole output, nothing, where a write failed a prefix, and
+-- for want of memory the blocks and refusals of the first k ticks, each whole.
+pub record Writes (left taken now : Option (List ℕ)) (before after : ℕ) (status : Status) : Type 0 where
+  pub whole : IsFinished status → IfSome left (λ input. Appends taken now (output input))
+  pub nothing : IsUnwritten status → Keeps taken now
+  pub prefix : status ≡ WriteFault → IfSome left (λ input. (n : ℕ) × (n ≤ length (output input)) × Appends taken now (take n (output input)))
+  pub blocks : status ≡ NoMemory → IfSome left (λ input. (k : ℕ) × Appends taken now (texts_from 0 (take k (reports (lines_after_end (lines_of input))))))
+  pub fault : status ≡ WriteFault → Rose before after
+
+-- the one line that tells of a status, or nothing
+abbrev pub status_line : Status → List ℕ
+status_line Done = []
+status_line Usage = []
+status_line DoneWithRefusals = []
+status_line BadProgram = codes "{\"program\":\"not built\"}\n"
+status_line ReadFault = codes "{\"status\":\"read fault\"}\n"
+status_line WriteFault = codes "{\"status\":\"write fault\"}\n"
+status_line NoMemory = codes "{\"status\":\"no memory\"}\n"
+status_line TooLong = codes "{\"status\":\"input too long\"}\n"

@@ -1,0 +1,82 @@
+//! The program as one call, and the run that it makes.
+ghost use Rattle.std.specs.Prelude.{◌≡◌, ◌≢◌, ◌↔◌, ◌≤◌, ◌^◌, [], IfSome};
+ghost use Rattle.std.specs.Io.KnownBytes.{Appends};
+ghost use Rattle.sq_base.specs.Causes.{Rose};
+ghost use Rattle.sq_top.specs.Output.{output};
+ghost use Rattle.sq_top.specs.Statuses.{IsFinished, Reads, Judges, Writes, status_line};
+
+use crate::session::run_input;
+use crate::statuses::Status;
+use sq_base::{Gate, Sink, Source};
+use sq_value::Str;
+use std::alloc::Global;
+use std::thread::Threads;
+
+/// The most bytes that an input may have.
+const LONGEST_INPUT: u64 = 1 << 40;
+
+/// Does all that the program does, for the words of its command line after its own name: without any, it is `serve`
+/// with one worker and an input of at most 2^40 bytes.
+///
+/// Any word is `Usage`, and then nothing is read, written or called.
+pub fn top<R: Threads + Sync, S: Source, K: Sink, E: Sink, G: Gate>(
+    rt: &R,
+    alloc: Global,
+    words: &[Str],
+    input: &mut S,
+    out: &mut K,
+    err: &mut E,
+    gate: &G,
+) -> Status
+    ensures usage { (result ≡ Status.Usage) ↔ (words.now ≢ []) }
+    ensures untouched { result ≡ Status.Usage
+        → (input.new ≡ input.old) × (out.new ≡ out.old) × (err.new ≡ err.old) }
+    ensures headline { IsFinished result → IfSome (S.left input.old)
+        (λ bytes. Appends (K.taken out.old) (K.taken out.new) (output bytes)) }
+    ensures input { Reads (2 ^ 40) (S.left input.old) (S.left input.new)
+        (S.faults input.old) (S.faults input.new) result }
+    ensures judged { Judges (S.left input.old) result }
+    ensures output { Writes (S.left input.old) (K.taken out.old) (K.taken out.new)
+        (K.faults out.old) (K.faults out.new) result }
+    ensures told { (Rose (E.faults err.old) (E.faults err.new) → ⊥)
+        → Appends (E.taken err.old) (E.taken err.new) (status_line result) }
+{
+    if !words.is_empty() {
+        return Status::Usage;
+    }
+    serve(rt, alloc, input, out, err, gate, 1, LONGEST_INPUT)
+}
+
+/// Reads a program and its change lines from `input`, keeps the program's view current, and writes its change after
+/// each tick to `out`: at `Done` and `DoneWithRefusals` exactly `output` of the bytes that the input held, however
+/// they came in pieces and whatever `workers` is.
+///
+/// At most `limit` bytes are read. Where the status tells of a fault, its one line goes to `err`, whose own faults are
+/// passed over. The gate is not called yet.
+pub fn serve<R: Threads + Sync, S: Source, K: Sink, E: Sink, G: Gate>(
+    rt: &R,
+    alloc: Global,
+    input: &mut S,
+    out: &mut K,
+    err: &mut E,
+    gate: &G,
+    workers: u32,
+    limit: u64,
+) -> Status
+    requires workers { (1 ≤ workers) × (workers ≤ 64) }
+    requires limit { limit ≤ 2 ^ 40 }
+    ensures headline { IsFinished result → IfSome (S.left input.old)
+        (λ bytes. Appends (K.taken out.old) (K.taken out.new) (output bytes)) }
+    ensures input { Reads limit (S.left input.old) (S.left input.new)
+        (S.faults input.old) (S.faults input.new) result }
+    ensures judged { Judges (S.left input.old) result }
+    ensures output { Writes (S.left input.old) (K.taken out.old) (K.taken out.new)
+        (K.faults out.old) (K.faults out.new) result }
+    ensures told { (Rose (E.faults err.old) (E.faults err.new) → ⊥)
+        → Appends (E.taken err.old) (E.taken err.new) (status_line result) }
+    ensures no_usage { result ≢ Status.Usage }
+{
+    let status = run_input(alloc, input, out, limit);
+    status.tell(err);
+    status
+}

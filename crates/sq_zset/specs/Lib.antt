@@ -1,0 +1,5 @@
+pub mod Pairs
+pub mod Range
+pub mod Inside
+pub mod Merge
+pub mod Collecting

@@ -1,0 +1,15 @@
+//! Z-sets of rows (DBSP, PVLDB 16(7), 2023): finite maps from rows to whole numbers other than 0.
+//!
+//! A weight lies from -2^62 to 2^62. A change of a table or a view is a Z-set, and so is a table itself.
+#![tactic(auto)]
+
+mod collect;
+pub mod laws;
+mod merge;
+mod pair;
+#[cfg(test)]
+mod tests;
+mod zset;
+
+pub use pair::{Pair, ZFault};
+pub use zset::ZSet;

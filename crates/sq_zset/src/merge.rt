@@ -1,0 +1,117 @@
+ghost use Rattle.std.specs.Prelude.{◌≡◌, ◌++◌, [], ℤ, false, IsTrue, IfOk, OnOk, OnErr, IfErr, Some, None, MatchOption};
+ghost use Rattle.sq_value.specs.Order.{row_cmp};
+ghost use Rattle.sq_algebra.specs.ZSet.{in_front, difference};
+ghost use Rattle.sq_zset.specs.Inside.{IsSound};
+ghost use Rattle.sq_zset.specs.Merge.{first_rows_cmp, BeginsWith};
+ghost use Rattle.sq_zset.specs.Range.{is_in_range, first_outside_in};
+
+use crate::ZFault;
+use sq_value::Row;
+use std::alloc::Global;
+use std::cmp::Ordering;
+
+/// How far from 0 a weight may be.
+const LIMIT: i128 = 1 << 62;
+
+/// The weight `sum`, or that it lies outside the range.
+pub fn weight_from(sum: i128) -> Result<i64, ZFault>
+    ensures ok { IfOk result (λ weight. weight ≡ sum) }
+    ensures in_range { OnOk result (IsTrue (is_in_range sum)) }
+    ensures outside { OnErr result (is_in_range sum ≡ false) }
+    ensures fault { IfErr result (λ fault. fault ≡ ZFault.Weight sum) }
+{
+    if sum < -LIMIT || LIMIT < sum {
+        return Err(ZFault::Weight { sum });
+    }
+    Ok(sum as i64)
+}
+
+/// Appends a copy of `row` with the weight `sum`, unless that is 0.
+fn push_weight(
+    alloc: Global,
+    list: &mut Vec<(Row, i64)>,
+    row: &Row,
+    sum: i128,
+) -> Result<(), ZFault>
+    ensures ok { OnOk result (list.new.items ≡ list.old.items ++ in_front row.now sum []) }
+    ensures in_range { OnOk result (IsTrue (is_in_range sum)) }
+    ensures outside { (outside : ℤ) → result ≡ Err (ZFault.Weight outside) → is_in_range sum ≡ false }
+    ensures fault { (outside : ℤ) → result ≡ Err (ZFault.Weight outside) → outside ≡ sum }
+{
+    let weight = weight_from(sum)?;
+    if weight != 0 {
+        list.push((row.clone_row(alloc)?, weight))?;
+    }
+    Ok(())
+}
+
+/// How the first rows compare. A list with no more rows comes last.
+fn compare_first(left: &[(Row, i64)], right: &[(Row, i64)]) -> Option<Ordering>
+    ensures { result ≡ first_rows_cmp left.now right.now }
+{
+    match (left.first(), right.first()) {
+        (None, None) => None,
+        (None, Some(_)) => Some(Ordering::Greater),
+        (Some(_), None) => Some(Ordering::Less),
+        (Some(p), Some(q)) => Some(p.0.cmp(&q.0)),
+    }
+}
+
+/// The lowest row that is left on the two sides of a merge, the difference of its weights, and how many entries it takes from each side.
+#[derive(Drop)]
+struct Next<'a> {
+    row: &'a Row,
+    weight: i128,
+    from_left: usize,
+    from_right: usize,
+}
+
+/// The next row of a merge, if any is left.
+fn next_row<'a>(left: &'a [(Row, i64)], right: &'a [(Row, i64)]) -> Option<Next<'a>>
+    requires left_sound { IsSound left.now }
+    requires right_sound { IsSound right.now }
+    ensures { MatchOption result ((left.now ≡ []) × (right.now ≡ [])) (λ next. BeginsWith left.now right.now next.row.now next.weight next.from_left next.from_right) }
+{
+    match compare_first(left, right)? {
+        Ordering::Less => Some(Next {
+            row: &left[0].0,
+            weight: i128::from(left[0].1),
+            from_left: 1,
+            from_right: 0,
+        }),
+        Ordering::Equal => Some(Next {
+            row: &left[0].0,
+            weight: i128::from(left[0].1) - i128::from(right[0].1),
+            from_left: 1,
+            from_right: 1,
+        }),
+        Ordering::Greater => Some(Next {
+            row: &right[0].0,
+            weight: -i128::from(right[0].1),
+            from_left: 0,
+            from_right: 1,
+        }),
+    }
+}
+
+/// The entries of the difference of two Z-sets, made from theirs by one merge.
+pub fn difference_of(
+    alloc: Global,
+    left: &[(Row, i64)],
+    right: &[(Row, i64)],
+) -> Result<Vec<(Row, i64)>, ZFault>
+    requires left_sound { IsSound left.now }
+    requires right_sound { IsSound right.now }
+    ensures ok { IfOk result (λ list. list.items ≡ difference row_cmp left.now right.now) }
+    ensures in_range { IfOk result (λ list. first_outside_in list.items ≡ None) }
+    ensures outside { (sum : ℤ) → result ≡ Err (ZFault.Weight sum) → first_outside_in (difference row_cmp left.now right.now) ≡ Some sum }
+{
+    let (mut left, mut right) = (left, right);
+    let mut list = Vec::new(alloc);
+    while let Some(next) = next_row(left, right) {
+        push_weight(alloc, &mut list, next.row, next.weight)?;
+        left = &left[next.from_left..];
+        right = &right[next.from_right..];
+    }
+    Ok(list)
+}
