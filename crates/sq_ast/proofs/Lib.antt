@@ -1,0 +1,10 @@
+pub mod TokenLemmas
+pub mod ParserLemmas
+pub mod Soundness
+pub mod Taken
+pub mod Follow
+pub mod ParserReads
+pub mod Completeness
+pub mod Loops
+pub mod Programs
+pub mod ExampleLemmas

@@ -1,0 +1,7 @@
+pub mod Words
+pub mod Trees
+pub mod Spelling
+pub mod Refusal
+pub mod Parser
+pub mod Reading
+pub mod Examples

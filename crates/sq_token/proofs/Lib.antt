@@ -1,0 +1,11 @@
+pub mod Runs
+pub mod Quotes
+pub mod Comments
+pub mod Numbers
+pub mod SymbolLemmas
+pub mod Steps
+pub mod Forms
+pub mod Outcomes
+pub mod Longest
+pub mod Spans
+pub mod Answer
