@@ -8,3 +8,5 @@ mod Going
 mod Reading
 mod ChangeLemmas
 mod SumLemmas
+mod Judging
+mod Pieces

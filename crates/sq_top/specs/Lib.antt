@@ -4,6 +4,8 @@ pub mod Ticks
 pub mod Outcomes
 pub mod Texts
 pub mod Output
+pub mod Programs
+pub mod FaultTexts
 pub mod Runs
 pub mod Statuses
 pub mod Sums

@@ -1,19 +1,10 @@
 -- What is printed for an input.
-use Rattle.std.specs.Prelude.{ℕ, ◌&&◌, ◌+◌, ◌++◌, Bool, List, [], ◌∷◌, map, if◌then◌else◌, codes}
-use Rattle.std.specs.Str.{bytes_eq}
+use Rattle.std.specs.Prelude.{ℕ, ◌+◌, ◌++◌, Bool, List, [], ◌∷◌, map}
 use Rattle.std.specs.List.{list_any, enumerate_from}
-use Rattle.sq_top.specs.Lines.{lines_of, has_end_line, text_before_end, lines_after_end}
+use Rattle.sq_top.specs.Lines.{lines_of, lines_after_end}
 use Rattle.sq_top.specs.ChangeLines.{decoded}
 use Rattle.sq_top.specs.Ticks.{Row, Outcome, accepted, is_refusal, ticks_of, reports_from}
 use Rattle.sq_top.specs.Texts.{tick_text}
-
--- the program text that is built
-abbrev pub program_text : List ℕ
-program_text = codes "CREATE TABLE t (a INTEGER);\nCREATE VIEW v AS SELECT * FROM t;\n"
-
--- whether an input begins with the program that is built and its end line
-abbrev pub is_accepted : List ℕ → Bool
-is_accepted input = has_end_line (lines_of input) && bytes_eq (text_before_end (lines_of input)) program_text
 
 -- Block 0, over no rows at all, and then each tick of the change lines.
 abbrev pub reports : List (List ℕ) → List (List Row × Outcome)
@@ -24,9 +15,9 @@ abbrev pub texts_from : ℕ → List (List Row × Outcome) → List ℕ
 texts_from tick [] = []
 texts_from tick (r ∷ rs) = tick_text tick r.0 r.1 ++ texts_from (tick + 1) rs
 
--- what is printed for an input: nothing where its program is not accepted
+-- what is printed for an input whose program is accepted
 abbrev pub output : List ℕ → List ℕ
-output input = if is_accepted input then texts_from 0 (reports (lines_after_end (lines_of input))) else []
+output input = texts_from 0 (reports (lines_after_end (lines_of input)))
 
 -- whether a tick of the input is refused
 abbrev pub has_refusal : List ℕ → Bool

@@ -1,9 +1,14 @@
 -- What each status of a run says of the objects that it was handed.
-use Rattle.std.specs.Prelude.{◌≡◌, ℕ, ◌<◌, ◌≤◌, List, [], length, take, true, false, Option, IfSome, ⊤, codes}
+use Rattle.std.specs.Prelude.{◌≡◌, ◌≢◌, ℕ, ◌<◌, ◌≤◌, List, [], length, take, true, false, Option, IfSome, ⊤, codes}
 use Rattle.std.specs.Io.KnownBytes.{Appends, Keeps, IsAtEnd}
 use Rattle.sq_base.specs.Causes.{Rose}
 use Rattle.sq_top.specs.Lines.{lines_of, lines_after_end}
-use Rattle.sq_top.specs.Output.{is_accepted, has_refusal, output, reports, texts_from}
+use Rattle.sq_top.specs.Output.{has_refusal, output, reports, texts_from}
+use Rattle.sq_top.specs.Programs.{HasFault, IsAccepted}
+use Rattle.sq_top.specs.FaultTexts.{fault_text}
+use Rattle.sq_top.specs.declared.program_fault.ProgramFault.{ProgramFault}
+use Rattle.sq_top.specs.declared.session.Ending.{Ending}
+use Rattle.sq_top.specs.declared.session.Ending.TheVariants.{Ends, Refused}
 use Rattle.sq_top.specs.declared.statuses.Status.{Status}
 use Rattle.sq_top.specs.declared.statuses.Status.TheVariants.{Done, Usage, DoneWithRefusals, BadProgram, ReadFault, WriteFault, NoMemory, TooLong}
 
@@ -39,10 +44,10 @@ pub record Reads (limit : ℕ) (left now : Option (List ℕ)) (before after : �
 
 -- What a status says of the input.
 pub record Judges (left : Option (List ℕ)) (status : Status) : Type 0 where
-  pub bad : status ≡ BadProgram → IfSome left (λ input. is_accepted input ≡ false)
-  pub written : status ≡ WriteFault → IfSome left (λ input. is_accepted input ≡ true)
-  pub done : status ≡ Done → IfSome left (λ input. (is_accepted input ≡ true) × (has_refusal input ≡ false))
-  pub refusals : status ≡ DoneWithRefusals → IfSome left (λ input. (is_accepted input ≡ true) × (has_refusal input ≡ true))
+  pub bad : status ≡ BadProgram → IfSome left (λ input. (fault : ProgramFault) × HasFault input fault)
+  pub written : status ≡ WriteFault → IfSome left IsAccepted
+  pub done : status ≡ Done → IfSome left (λ input. IsAccepted input × (has_refusal input ≡ false))
+  pub refusals : status ≡ DoneWithRefusals → IfSome left (λ input. IsAccepted input × (has_refusal input ≡ true))
 
 -- What a status says of the sink for the output: it took the whole output, nothing, where a write failed a prefix, and
 -- for want of memory the blocks and refusals of the first k ticks, each whole.
@@ -53,13 +58,33 @@ pub record Writes (left taken now : Option (List ℕ)) (before after : ℕ) (sta
   pub blocks : status ≡ NoMemory → IfSome left (λ input. (k : ℕ) × Appends taken now (texts_from 0 (take k (reports (lines_after_end (lines_of input))))))
   pub fault : status ≡ WriteFault → Rose before after
 
--- the one line that tells of a status, or nothing
+-- the one line that tells of a status, where it has no fault to tell of, or nothing
 abbrev pub status_line : Status → List ℕ
 status_line Done = []
 status_line Usage = []
 status_line DoneWithRefusals = []
-status_line BadProgram = codes "{\"program\":\"not built\"}\n"
+status_line BadProgram = []
 status_line ReadFault = codes "{\"status\":\"read fault\"}\n"
 status_line WriteFault = codes "{\"status\":\"write fault\"}\n"
 status_line NoMemory = codes "{\"status\":\"no memory\"}\n"
 status_line TooLong = codes "{\"status\":\"input too long\"}\n"
+
+-- What the sink for errors took: the line of the program's first fault, or the line of the status.
+abbrev pub Tells : Option (List ℕ) → Option (List ℕ) → Option (List ℕ) → Status → Type 0
+Tells left taken now BadProgram = (fault : ProgramFault) × IfSome left (λ input. HasFault input fault) × Appends taken now (fault_text fault)
+Tells left taken now status = Appends taken now (status_line status)
+
+-- the line that tells of an ending
+abbrev pub ending_line : Ending → List ℕ
+ending_line (Ends status) = status_line status
+ending_line (Refused fault) = fault_text fault
+
+-- the status of an ending
+abbrev pub status_of : Ending → Status
+status_of (Ends status) = status
+status_of (Refused fault) = BadProgram
+
+-- the fault of an ending is the first of the program
+abbrev pub Names : Option (List ℕ) → Ending → Type 0
+Names left (Ends status) = status ≢ BadProgram
+Names left (Refused fault) = IfSome left (λ input. HasFault input fault)

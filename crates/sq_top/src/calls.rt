@@ -3,7 +3,7 @@ ghost use Rattle.std.specs.Prelude.{◌≡◌, ◌≢◌, ◌↔◌, ◌≤◌, 
 ghost use Rattle.std.specs.Io.KnownBytes.{Appends};
 ghost use Rattle.sq_base.specs.Causes.{Rose};
 ghost use Rattle.sq_top.specs.Output.{output};
-ghost use Rattle.sq_top.specs.Statuses.{IsFinished, Reads, Judges, Writes, status_line};
+ghost use Rattle.sq_top.specs.Statuses.{IsFinished, Reads, Judges, Writes, Tells};
 
 use crate::session::run_input;
 use crate::statuses::Status;
@@ -39,7 +39,7 @@ pub fn top<R: Threads + Sync, S: Source, K: Sink, E: Sink, G: Gate>(
     ensures output { Writes (S.left input.old) (K.taken out.old) (K.taken out.new)
         (K.faults out.old) (K.faults out.new) result }
     ensures told { (Rose (E.faults err.old) (E.faults err.new) → ⊥)
-        → Appends (E.taken err.old) (E.taken err.new) (status_line result) }
+        → Tells (S.left input.old) (E.taken err.old) (E.taken err.new) result }
 {
     if !words.is_empty() {
         return Status::Usage;
@@ -73,10 +73,8 @@ pub fn serve<R: Threads + Sync, S: Source, K: Sink, E: Sink, G: Gate>(
     ensures output { Writes (S.left input.old) (K.taken out.old) (K.taken out.new)
         (K.faults out.old) (K.faults out.new) result }
     ensures told { (Rose (E.faults err.old) (E.faults err.new) → ⊥)
-        → Appends (E.taken err.old) (E.taken err.new) (status_line result) }
+        → Tells (S.left input.old) (E.taken err.old) (E.taken err.new) result }
     ensures no_usage { result ≢ Status.Usage }
 {
-    let status = run_input(alloc, input, out, limit);
-    status.tell(err);
-    status
+    run_input(alloc, input, out, limit).tell(err)
 }

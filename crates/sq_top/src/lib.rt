@@ -4,13 +4,17 @@
 //! lines, the ticks and the printed texts are private parts of this crate.
 #![tactic(auto)]
 
+mod built;
 mod calls;
 mod change;
 mod change_line;
+mod fault_lines;
+mod judge;
 pub mod laws;
 mod lines;
 mod play;
 mod print;
+mod program_fault;
 mod read;
 mod refusal;
 mod run;
@@ -21,5 +25,7 @@ mod tick;
 pub use calls::{serve, top};
 pub use statuses::Status;
 
+#[cfg(test)]
+mod program_tests;
 #[cfg(test)]
 mod tests;

@@ -1,19 +1,45 @@
 //! What a run makes of its input: it is read, its program is judged, and its change lines are played.
-ghost use Rattle.std.specs.Prelude.{◌≡◌, ◌≢◌, ◌⊎◌, ◌≤◌, ◌^◌, length, true, false, Some, MatchOption};
-ghost use Rattle.sq_top.specs.Lines.{lines_of, lines_after_end};
-ghost use Rattle.sq_top.specs.Output.{is_accepted};
-ghost use Rattle.sq_top.specs.Statuses.{IsRead, Reads, Judges, Writes};
+ghost use Rattle.std.specs.Prelude.{◌≡◌, ◌≢◌, ◌⊎◌, ◌≤◌, ◌^◌, length, Some};
+ghost use Rattle.std.specs.Io.KnownBytes.{Appends};
+ghost use Rattle.sq_base.specs.Causes.{Rose};
+ghost use Rattle.sq_top.specs.Statuses.{ending_line, IsRead, Reads, Judges, Writes, Names, status_of};
 
-use crate::lines::split_program;
+use crate::fault_lines::tell_fault;
+use crate::judge::{JudgeStop, judge};
 use crate::play::play_lines;
+use crate::program_fault::ProgramFault;
 use crate::read::{ReadStop, read_all};
 use crate::run::Stop;
 use crate::statuses::Status;
 use sq_base::{Sink, Source};
 use std::alloc::Global;
 
-/// The program text that is built.
-const PROGRAM: &[u8; 62] = b"CREATE TABLE t (a INTEGER);\nCREATE VIEW v AS SELECT * FROM t;\n";
+/// How a run ends: with a status, or with the fault of its program.
+#[derive(Clone, Copy, Debug, PartialEq, Eq)]
+pub enum Ending {
+    Ends(Status),
+    Refused(ProgramFault),
+}
+
+impl Ending {
+    /// Writes the one line that tells of this ending, where it has one, and answers its status. A fault of `err` is passed over.
+    pub fn tell<E: Sink>(self, err: &mut E) -> Status
+        ensures status { result ≡ status_of self }
+        ensures told { (Rose (E.faults err.old) (E.faults err.new) → ⊥)
+            → Appends (E.taken err.old) (E.taken err.new) (ending_line self) }
+    {
+        match self {
+            Ending::Ends(status) => {
+                status.tell(err);
+                status
+            }
+            Ending::Refused(fault) => {
+                tell_fault(fault, err);
+                Status::BadProgram
+            }
+        }
+    }
+}
 
 /// Reads the input whole, judges its program, and plays its change lines.
 pub fn run_input<S: Source, K: Sink>(
@@ -21,51 +47,42 @@ pub fn run_input<S: Source, K: Sink>(
     input: &mut S,
     out: &mut K,
     limit: u64,
-) -> Status
+) -> Ending
     requires { limit ≤ 2 ^ 40 }
     ensures input { Reads limit (S.left input.old) (S.left input.new)
-        (S.faults input.old) (S.faults input.new) result }
-    ensures judged { Judges (S.left input.old) result }
+        (S.faults input.old) (S.faults input.new) (status_of result) }
+    ensures judged { Judges (S.left input.old) (status_of result) }
     ensures output { Writes (S.left input.old) (K.taken out.old) (K.taken out.new)
-        (K.faults out.old) (K.faults out.new) result }
-    ensures no_usage { result ≢ Status.Usage }
+        (K.faults out.old) (K.faults out.new) (status_of result) }
+    ensures names { Names (S.left input.old) result }
+    ensures no_usage { status_of result ≢ Status.Usage }
 {
     match read_all(alloc, input, limit) {
         Ok(bytes) => answer(alloc, &bytes, out),
-        Err(ReadStop::Failed) => Status::ReadFault,
-        Err(ReadStop::TooLong) => Status::TooLong,
-        Err(ReadStop::Memory) => Status::NoMemory,
+        Err(ReadStop::Failed) => Ending::Ends(Status::ReadFault),
+        Err(ReadStop::TooLong) => Ending::Ends(Status::TooLong),
+        Err(ReadStop::Memory) => Ending::Ends(Status::NoMemory),
     }
 }
 
 // Judges the program of a whole input, and plays its change lines.
-fn answer<K: Sink>(alloc: Global, input: &[u8], out: &mut K) -> Status
+fn answer<K: Sink>(alloc: Global, input: &[u8], out: &mut K) -> Ending
     requires { length input.now ≤ 2 ^ 40 }
-    ensures judged { Judges (Some input.now) result }
+    ensures judged { Judges (Some input.now) (status_of result) }
     ensures output { Writes (Some input.now) (K.taken out.old) (K.taken out.new)
-        (K.faults out.old) (K.faults out.new) result }
-    ensures read { IsRead result ⊎ (result ≡ Status.NoMemory) }
+        (K.faults out.old) (K.faults out.new) (status_of result) }
+    ensures names { Names (Some input.now) result }
+    ensures read { IsRead (status_of result) ⊎ (status_of result ≡ Status.NoMemory) }
 {
-    let Some(lines) = change_lines(input) else {
-        return Status::BadProgram;
+    let lines = match judge(alloc, input) {
+        Ok(lines) => lines,
+        Err(JudgeStop::Fault(fault)) => return Ending::Refused(fault),
+        Err(JudgeStop::Memory) => return Ending::Ends(Status::NoMemory),
     };
     match play_lines(alloc, lines, out) {
-        Ok(false) => Status::Done,
-        Ok(true) => Status::DoneWithRefusals,
-        Err(Stop::Write) => Status::WriteFault,
-        Err(Stop::Memory) => Status::NoMemory,
-    }
-}
-
-// The change lines of an input whose program is the one that is built.
-fn change_lines(input: &[u8]) -> Option<&[u8]>
-    ensures { MatchOption result (is_accepted input.now ≡ false)
-        (λ lines. (is_accepted input.now ≡ true)
-        × (lines_of lines.now ≡ lines_after_end (lines_of input.now))
-        × (length lines.now ≤ length input.now)) }
-{
-    match split_program(input) {
-        Some((text, lines)) if text == PROGRAM.as_slice() => Some(lines),
-        _ => None,
+        Ok(false) => Ending::Ends(Status::Done),
+        Ok(true) => Ending::Ends(Status::DoneWithRefusals),
+        Err(Stop::Write) => Ending::Ends(Status::WriteFault),
+        Err(Stop::Memory) => Ending::Ends(Status::NoMemory),
     }
 }

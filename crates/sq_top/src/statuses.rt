@@ -14,7 +14,7 @@ pub enum Status {
     Usage = 2,
     /// The whole output was written, and a tick was refused.
     DoneWithRefusals = 3,
-    /// The program text is not the one that is built. Nothing was written.
+    /// The program text has a fault, or is not the one that is built. Nothing was written.
     BadProgram = 4,
     /// A read failed.
     ReadFault = 5,
@@ -29,7 +29,7 @@ pub enum Status {
 impl Status {
     ghost use Rattle.sq_top.specs.Statuses.{status_line};
 
-    /// Writes the one line that tells of this status, where it has one. A fault of `err` is passed over.
+    /// Writes the one line that tells of this status, where it has one of its own. A fault of `err` is passed over.
     pub fn tell<E: Sink>(self, err: &mut E)
         ensures { (Rose (E.faults err.old) (E.faults err.new) → ⊥) → Appends (E.taken err.old) (E.taken err.new) (status_line self) }
     {
@@ -40,8 +40,7 @@ impl Status {
         ensures { result.now ≡ status_line self }
     {
         match self {
-            Status::Done | Status::Usage | Status::DoneWithRefusals => b"",
-            Status::BadProgram => b"{\"program\":\"not built\"}\n",
+            Status::Done | Status::Usage | Status::DoneWithRefusals | Status::BadProgram => b"",
             Status::ReadFault => b"{\"status\":\"read fault\"}\n",
             Status::WriteFault => b"{\"status\":\"write fault\"}\n",
             Status::NoMemory => b"{\"status\":\"no memory\"}\n",

@@ -192,46 +192,6 @@ fn lines_at_the_edges_are_taken(rt: HostRuntime) -> Result<(), Fail> {
     Ok(())
 }
 
-// Checks that this input is refused for its program.
-fn is_not_built<R: Threads + Sync + Abort>(
-    rt: &R,
-    alloc: Global,
-    input: &[u8],
-) -> Result<(), NoMemory> {
-    let mut source = MemSource::new(Vec::from_slice(alloc, input)?, 3, Vec::new(alloc));
-    let mut out = MemSink::new(alloc, 100, 100, Vec::new(alloc))?;
-    let mut err = MemSink::new(alloc, 4, 100, Vec::new(alloc))?;
-    let status = top(rt, alloc, &[], &mut source, &mut out, &mut err, &FreeGate);
-    assert_eq!(rt; status, Status::BadProgram);
-    assert_eq!(rt; out.taken(), b"".as_slice());
-    assert_eq!(rt; err.taken(), b"{\"program\":\"not built\"}\n".as_slice());
-    Ok(())
-}
-
-#[test]
-fn another_program_is_refused(rt: HostRuntime) -> Result<(), Fail> {
-    let alloc = rt.alloc();
-    is_not_built(&rt, alloc, b"")?;
-    is_not_built(&rt, alloc, b"---\n")?;
-    is_not_built(&rt, alloc, b"CREATE TABLE t (a INT")?;
-    is_not_built(
-        &rt,
-        alloc,
-        b"CREATE TABLE t (a INTEGER);\nCREATE VIEW v AS SELECT * FROM t;\n",
-    )?;
-    is_not_built(
-        &rt,
-        alloc,
-        b"CREATE TABLE t (a INTEGER);\nCREATE VIEW v AS SELECT * FROM t;\n----\n",
-    )?;
-    is_not_built(
-        &rt,
-        alloc,
-        b"CREATE TABLE t (a INTEGER);\nCREATE VIEW v AS SELECT a FROM t;\n---\n",
-    )?;
-    Ok(())
-}
-
 #[test]
 fn a_word_is_no_run(rt: HostRuntime) -> Result<(), Fail> {
     let alloc = rt.alloc();

@@ -1,0 +1,72 @@
+ghost use Rattle.std.specs.Prelude.{◌≡◌};
+ghost use Rattle.sq_parse.specs.declared.fault.ParseFault.TheVariants as faults;
+ghost use Rattle.sq_parse.specs.declared.fault.Stop.TheVariants.{Memory};
+
+use sq_value::NoMemory;
+use std::alloc::{AllocError, AllocFailed};
+
+/// Why tokens spell no statements: the first statement that is too deep or not spelled, by its number. In one
+/// statement, too deep comes first.
+#[derive(Clone, Copy, Debug, PartialEq, Eq)]
+pub enum ParseFault {
+    /// The statement of this number is not spelled by the grammar.
+    NotGrammar { number: u32 },
+    /// At some place of the statement of this number, more than 64 parentheses are open.
+    TooDeep { number: u32 },
+    /// Memory ran out. No statement is its cause.
+    Memory,
+}
+
+/// Why one statement, or a part of it, was not read.
+#[derive(Clone, Copy, Debug, PartialEq, Eq)]
+pub(crate) enum Stop {
+    NotGrammar,
+    Memory,
+}
+
+impl From<AllocError> for Stop {
+    ghost from_gives = { λ _ e. e ≡ Memory };
+
+    fn from(_: AllocError) -> Self {
+        Stop::Memory
+    }
+}
+
+impl<T: Drop> From<AllocFailed<T>> for Stop {
+    ghost from_gives = { λ _ e. e ≡ Memory };
+
+    fn from(_: AllocFailed<T>) -> Self {
+        Stop::Memory
+    }
+}
+
+impl From<NoMemory> for Stop {
+    ghost from_gives = { λ _ e. e ≡ Memory };
+
+    fn from(_: NoMemory) -> Self {
+        Stop::Memory
+    }
+}
+
+impl From<AllocError> for ParseFault {
+    ghost from_gives = { λ _ e. e ≡ faults.Memory };
+
+    fn from(_: AllocError) -> Self {
+        ParseFault::Memory
+    }
+}
+
+impl<T: Drop> From<AllocFailed<T>> for ParseFault {
+    ghost from_gives = { λ _ e. e ≡ faults.Memory };
+
+    fn from(_: AllocFailed<T>) -> Self {
+        ParseFault::Memory
+    }
+}
+
+fn is_send_and_sync<T: Send + Sync>() {}
+
+// A fault may be handed to another thread, and be shared.
+fn faults_cross_threads() {
+    is_send_and_sync::<ParseFault>();
+}

@@ -1,0 +1,57 @@
+-- The judgement of a program, from its tokens up to its input.
+use Rattle.std.proofs.Common.{◌≡◌, ◌↔◌, ℕ, List, Bool, true, false, sym, subst, ◌≢◌, ◌<◌, ◌≤◌, length}
+use Rattle.std.specs.Prelude.{IsTrue}
+use Rattle.std.specs.Str.{IsUtf8}
+use Rattle.sq_token.specs.declared.token.Token.{Token}
+use Rattle.sq_token.specs.declared.fault.LexFault.{LexFault}
+use Rattle.sq_token.specs.declared.fault.LexFault.TheVariants as lexing
+use Rattle.sq_token.specs.Reading.{Tokens}
+use Rattle.sq_token.specs.Fault as lex
+use Rattle.sq_parse.specs.declared.fault.ParseFault.{ParseFault}
+use Rattle.sq_parse.specs.declared.fault.ParseFault.TheVariants as parsing
+use Rattle.sq_parse.specs.Causes as parse
+use Rattle.sq_top.specs.declared.judge.JudgeStop.{JudgeStop}
+use Rattle.sq_top.specs.declared.judge.JudgeStop.TheVariants.{Fault, Memory}
+use Rattle.sq_ast.specs.declared.statement.Statement.{Statement}
+use Rattle.sq_ast.specs.Spelling.{Spells}
+use Rattle.sq_top.specs.declared.program_fault.ProgramFault.TheVariants.{NotBuilt, TextTooLong}
+use Rattle.sq_top.specs.Lines.{lines_of, has_end_line, text_before_end}
+use Rattle.sq_top.specs.Programs.{built, longest_text, IsText, TokensFault, TextFault, HasFault, TokensStop, TextStops, Stops, lex_stop, parse_stop}
+
+pub parse_stops : (tokens : List Token) (fault : ParseFault) → parse.HasCause tokens fault → TokensStop tokens (parse_stop fault)
+parse_stops tokens (parsing.NotGrammar n) cause = TokensFault.not_grammar cause
+parse_stops tokens (parsing.TooDeep n) cause = TokensFault.too_deep cause
+parse_stops tokens parsing.Memory cause = tt
+
+pub lex_stops : (text : List ℕ) (fault : LexFault) → IsUtf8 text → lex.HasCause text fault → TextStops text (lex_stop fault)
+lex_stops text lexing.Memory utf8 cause = tt
+lex_stops text (lexing.BadByte at) utf8 cause = TextFault.lex utf8 cause
+lex_stops text (lexing.OpenText at) utf8 cause = TextFault.lex utf8 cause
+lex_stops text (lexing.OpenName at) utf8 cause = TextFault.lex utf8 cause
+lex_stops text (lexing.OpenComment at) utf8 cause = TextFault.lex utf8 cause
+lex_stops text (lexing.LongNumber at) utf8 cause = TextFault.lex utf8 cause
+
+pub tokens_stop : (text : List ℕ) (tokens : List Token) (stop : JudgeStop) → IsUtf8 text → Tokens text tokens → TokensStop tokens stop → TextStops text stop
+tokens_stop text tokens (Fault fault) utf8 lexed wrong = TextFault.in_tokens tokens utf8 lexed wrong
+tokens_stop text tokens Memory utf8 lexed wrong = tt
+
+pub text_stop : (input text : List ℕ) (stop : JudgeStop) → IsText input text → TextStops text stop → Stops input stop
+text_stop input text (Fault fault) is wrong = HasFault.in_text is wrong
+text_stop input text Memory is wrong = tt
+
+pub untrue : {P : Type 0} (b : Bool) → IsTrue b ↔ P → b ≡ false → P → ⊥
+untrue b same e p = let t : b ≡ true = same.1 p in cc
+
+pub istrue : {P : Type 0} (b : Bool) → IsTrue b ↔ P → b ≡ true → P
+istrue b same e = same.0 e
+
+pub not_built : (tokens : List Token) (statements : List Statement) (stop : JudgeStop) → Spells tokens statements
+    → (stop ≡ Fault NotBuilt) × (statements ≢ built) → TokensStop tokens stop
+not_built tokens statements stop spelled other = subst (TokensStop tokens) (sym other.0) (TokensFault.not_built statements spelled other.1)
+
+pub text_too_long : (input text : List ℕ) → has_end_line (lines_of input) ≡ true → text ≡ text_before_end (lines_of input) → longest_text < length text
+    → HasFault input TextTooLong
+text_too_long input text ended before long = HasFault.text_too_long ended (subst (λ t. longest_text < length t) before long)
+
+pub is_text : (input text : List ℕ) → has_end_line (lines_of input) ≡ true → text ≡ text_before_end (lines_of input) → length text ≤ longest_text → IsText input text
+is_text input text ended before short = record { ended = ended; before = before; short = short }

@@ -1,0 +1,16 @@
+use Rattle.std.proofs.lemmas.Result.{err_from_is_err_and, IfErr-weaker}
+use Rattle.std.proofs.Common.{subst, sym}
+use Rattle.sq_ast.specs.Spelling.{Spells}
+use Rattle.sq_top.proofs.Judging.{parse_stops, not_built}
+use Rattle.sq_top.proofs.judge.judge_tokens.Goals as goal
+
+pub returns-in_err-statements-clause-refused : goal.returns-in_err-statements-clause-refused
+returns-in_err-statements-clause-refused c =
+    let p = err_from_is_err_and c.from_residual.result c.from_residual.ensures.1 in
+    rw (p.1, p.2) (parse_stops c.args.tokens.now c.in_err-statements.field-0.0 c.in_err-statements.ensures.refused)
+
+pub returns-clause-refused : goal.returns-clause-refused
+returns-clause-refused c =
+    IfErr-weaker c.judge_statements.result _ _
+    (λ stop other. not_built c.args.tokens.now c.deref.result.now stop (subst (Spells c.args.tokens.now) (sym c.deref.ensures.value) c.in_ok-statements.ensures.found) other)
+    c.judge_statements.ensures.refused

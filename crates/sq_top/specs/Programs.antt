@@ -1,0 +1,125 @@
+-- The program text of an input: its faults, and the one program that is built.
+use Rattle.std.specs.Prelude.{◌≡◌, ◌≢◌, ℕ, ◌<◌, ◌≤◌, true, false, List, [], ◌∷◌, length, None, codes, ⊤}
+use Rattle.std.specs.Str.{IsUtf8}
+use Rattle.sq_token.specs.declared.token.Token.{Token}
+use Rattle.sq_token.specs.declared.fault.LexFault.{LexFault}
+use Rattle.sq_token.specs.Reading.{Tokens}
+use Rattle.sq_token.specs.Fault.{FirstFault}
+use Rattle.sq_ast.specs.declared.statement.Statement.{Statement}
+use Rattle.sq_ast.specs.declared.statement.ColumnTree.{ColumnTree}
+use Rattle.sq_ast.specs.declared.statement.Body.TheVariants as body
+use Rattle.sq_ast.specs.declared.query.JoinedTree.{JoinedTree}
+use Rattle.sq_ast.specs.declared.query.QueryTree.{QueryTree}
+use Rattle.sq_ast.specs.declared.query.QueryTree.TheVariants as query
+use Rattle.sq_ast.specs.declared.query.BlockTree.{BlockTree, roll-BlockTree}
+use Rattle.sq_ast.specs.declared.query.ItemTree.{ItemTree}
+use Rattle.sq_ast.specs.declared.statement.TypeName.TheVariants as type
+use Rattle.sq_ast.specs.declared.query.ItemTree.TheVariants as item
+use Rattle.sq_ast.specs.declared.query.JoinTree.TheVariants as join
+use Rattle.sq_ast.specs.declared.query.SourceTree.TheVariants as source
+use Rattle.sq_ast.specs.Trees.{joined}
+use Rattle.sq_ast.specs.Spelling.{Spells}
+use Rattle.sq_ast.specs.Refusal as refusal
+use Rattle.sq_parse.specs.declared.fault.ParseFault.{ParseFault}
+use Rattle.sq_parse.specs.declared.fault.ParseFault.TheVariants as parse
+use Rattle.sq_token.specs.declared.fault.LexFault.TheVariants as lexing
+use Rattle.sq_top.specs.declared.judge.JudgeStop.{JudgeStop}
+use Rattle.sq_top.specs.declared.judge.JudgeStop.TheVariants.{Fault, Memory}
+use Rattle.sq_top.specs.declared.program_fault.ProgramFault.{ProgramFault}
+use Rattle.sq_top.specs.declared.program_fault.ProgramFault.TheVariants as faults
+use Rattle.sq_top.specs.Lines.{lines_of, has_end_line, text_before_end}
+
+-- the most bytes that a program text may have
+abbrev pub longest_text : ℕ
+longest_text = 1048576
+
+-- the one program that is built: CREATE TABLE t (a INTEGER); CREATE VIEW v AS SELECT * FROM t
+abbrev pub built_column : ColumnTree
+built_column = record { name = codes "a"; kind = type.Integer; not_null = false }
+
+abbrev pub built_columns : List ColumnTree
+built_columns = built_column ∷ []
+
+abbrev pub built_table : Statement
+built_table = record { number = 1; body = body.Table (codes "t") built_columns }
+
+abbrev pub built_items : List ItemTree
+built_items = item.Star ∷ []
+
+abbrev pub built_source : JoinedTree
+built_source = joined join.Comma (source.Relation (codes "t") None)
+
+abbrev pub built_sources : List JoinedTree
+built_sources = built_source ∷ []
+
+abbrev pub built_block : BlockTree
+built_block = roll-BlockTree (record { distinct = false; items = built_items; sources = built_sources; filter = None; group = []; having = None })
+
+abbrev pub built_query : QueryTree
+built_query = query.Block built_block
+
+abbrev pub built_view : Statement
+built_view = record { number = 2; body = body.View (codes "v") None built_query }
+
+abbrev pub built : List Statement
+built = built_table ∷ built_view ∷ []
+
+-- the program text of an input with an end line, if it is not too long
+pub record IsText (input text : List ℕ) : Type 0 where
+  pub ended : has_end_line (lines_of input) ≡ true
+  pub before : text ≡ text_before_end (lines_of input)
+  pub short : length text ≤ longest_text
+
+-- a text is the program that is built, however it is laid out
+pub record IsBuilt (text : List ℕ) : Type 0 where
+  pub tokens : List Token
+  pub utf8 : IsUtf8 text
+  pub lexed : Tokens text tokens
+  pub spelled : Spells tokens built
+
+-- the first fault of a text in UTF-8 with these tokens
+pub data TokensFault : List Token → ProgramFault → Type 0 where
+  too_deep : {tokens : List Token} {n : ℕ} → refusal.Refuses tokens (refusal.TooDeep n) → TokensFault tokens (faults.Parse (parse.TooDeep n))
+  not_grammar : {tokens : List Token} {n : ℕ} → refusal.Refuses tokens (refusal.NotGrammar n) → TokensFault tokens (faults.Parse (parse.NotGrammar n))
+  not_built : {tokens : List Token} (statements : List Statement) → Spells tokens statements → statements ≢ built → TokensFault tokens faults.NotBuilt
+
+-- the first fault of a text: of its bytes, its tokens or its grammar, or that it is another program
+pub data TextFault : List ℕ → ProgramFault → Type 0 where
+  not_utf8 : {text : List ℕ} → ¬ (IsUtf8 text) → TextFault text faults.NotUtf8
+  lex : {text : List ℕ} {fault : LexFault} → IsUtf8 text → FirstFault text fault → TextFault text (faults.Lex fault)
+  in_tokens : {text : List ℕ} {fault : ProgramFault} (tokens : List Token) → IsUtf8 text → Tokens text tokens → TokensFault tokens fault → TextFault text fault
+
+-- the first fault of the program of an input
+pub data HasFault : List ℕ → ProgramFault → Type 0 where
+  text_too_long : {input : List ℕ} → has_end_line (lines_of input) ≡ true → longest_text < length (text_before_end (lines_of input)) → HasFault input faults.TextTooLong
+  no_end_too_long : {input : List ℕ} → has_end_line (lines_of input) ≡ false → longest_text < length input → HasFault input faults.TextTooLong
+  no_end : {input : List ℕ} → has_end_line (lines_of input) ≡ false → length input ≤ longest_text → HasFault input faults.NoEnd
+  in_text : {input text : List ℕ} {fault : ProgramFault} → IsText input text → TextFault text fault → HasFault input fault
+
+-- an input begins with the program that is built and its end line
+pub record IsAccepted (input : List ℕ) : Type 0 where
+  pub text : List ℕ
+  pub is_text : IsText input text
+  pub is_built : IsBuilt text
+
+-- a judgement stopped: at a fault of the text, or for want of memory
+abbrev pub TextStops : List ℕ → JudgeStop → Type 0
+TextStops text (Fault fault) = TextFault text fault
+TextStops text Memory = ⊤
+
+abbrev pub TokensStop : List Token → JudgeStop → Type 0
+TokensStop tokens (Fault fault) = TokensFault tokens fault
+TokensStop tokens Memory = ⊤
+
+abbrev pub Stops : List ℕ → JudgeStop → Type 0
+Stops input (Fault fault) = HasFault input fault
+Stops input Memory = ⊤
+
+-- what a fault of the tokens, or of the grammar, is to a judgement
+abbrev pub lex_stop : LexFault → JudgeStop
+lex_stop lexing.Memory = Memory
+lex_stop fault = Fault (faults.Lex fault)
+
+abbrev pub parse_stop : ParseFault → JudgeStop
+parse_stop parse.Memory = Memory
+parse_stop fault = Fault (faults.Parse fault)

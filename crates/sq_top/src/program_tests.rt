@@ -1,0 +1,212 @@
+// Programs that are refused, with the line that tells why, and the one that is built in other words.
+use crate::{Status, top};
+use sq_base::{FreeGate, MemSink, MemSource};
+use sq_value::NoMemory;
+use std::alloc::{AllocError, Global};
+use std::process::Abort;
+use std::test::Fail;
+use std::thread::Threads;
+
+// Checks what a whole input prints to each sink, and how it ends.
+fn ends<R: Threads + Sync + Abort>(
+    rt: &R,
+    alloc: Global,
+    input: &[u8],
+    printed: &[u8],
+    told: &[u8],
+    status: Status,
+) -> Result<(), NoMemory> {
+    let mut source = MemSource::new(Vec::from_slice(alloc, input)?, 1000, Vec::new(alloc));
+    let mut out = MemSink::new(alloc, 100, 100, Vec::new(alloc))?;
+    let mut err = MemSink::new(alloc, 4, 100, Vec::new(alloc))?;
+    let answer = top(rt, alloc, &[], &mut source, &mut out, &mut err, &FreeGate);
+    assert_eq!(rt; err.taken(), told);
+    assert_eq!(rt; out.taken(), printed);
+    assert_eq!(rt; answer, status);
+    Ok(())
+}
+
+// Checks that an input is refused for its program, with this line.
+fn is_refused<R: Threads + Sync + Abort>(
+    rt: &R,
+    alloc: Global,
+    input: &[u8],
+    told: &[u8],
+) -> Result<(), NoMemory> {
+    ends(rt, alloc, input, b"", told, Status::BadProgram)
+}
+
+// The same for a program text, behind which a line end and the end line stand.
+fn text_is_refused<R: Threads + Sync + Abort>(
+    rt: &R,
+    alloc: Global,
+    text: &[u8],
+    told: &[u8],
+) -> Result<(), NoMemory> {
+    let mut input = Vec::from_slice(alloc, text)?;
+    input.extend_from_slice(b"\n---\n")?;
+    is_refused(rt, alloc, &input, told)
+}
+
+// The same for a second statement, behind one that creates a table.
+fn second_is_refused<R: Threads + Sync + Abort>(
+    rt: &R,
+    alloc: Global,
+    statement: &[u8],
+    told: &[u8],
+) -> Result<(), NoMemory> {
+    let mut text = Vec::from_slice(alloc, b"CREATE TABLE t (a INTEGER, s VARCHAR);\n")?;
+    text.extend_from_slice(statement)?;
+    text_is_refused(rt, alloc, &text, told)
+}
+
+const NOT_BUILT: &[u8] = b"{\"program\":\"not built\"}\n";
+
+#[test]
+fn an_input_without_an_end_line_is_refused(rt: HostRuntime) -> Result<(), Fail> {
+    let alloc = rt.alloc();
+    let told = b"{\"program\":\"no end line\"}\n";
+    is_refused(&rt, alloc, b"", told)?;
+    is_refused(&rt, alloc, b"CREATE TABLE t (a INT", told)?;
+    is_refused(&rt, alloc, b"CREATE TABLE t (a INTEGER);\n----\n", told)?;
+    Ok(())
+}
+
+#[test]
+fn a_text_that_is_too_long_is_refused(rt: HostRuntime) -> Result<(), Fail> {
+    let alloc = rt.alloc();
+    let told = b"{\"program\":\"text too long\"}\n";
+    // 1,048,576 bytes of spaces and a line end are a program without statements, and one space more is too long.
+    let mut text = vec![in alloc; b' '; 1_048_575]?;
+    text_is_refused(&rt, alloc, &text, NOT_BUILT)?;
+    text.push(b' ')?;
+    text_is_refused(&rt, alloc, &text, told)?;
+    text.push(b' ')?;
+    is_refused(&rt, alloc, &text, told)?;
+    Ok(())
+}
+
+#[test]
+fn faults_of_bytes_and_tokens_are_told_with_their_places(rt: HostRuntime) -> Result<(), Fail> {
+    let alloc = rt.alloc();
+    text_is_refused(&rt, alloc, b"\xff", b"{\"program\":\"not UTF-8\"}\n")?;
+    text_is_refused(
+        &rt,
+        alloc,
+        b"CREATE TABLE t (a INTEGER) #",
+        b"{\"program\":\"bad byte\",\"at\":27}\n",
+    )?;
+    text_is_refused(
+        &rt,
+        alloc,
+        b"SELECT 1e5",
+        b"{\"program\":\"bad byte\",\"at\":8}\n",
+    )?;
+    text_is_refused(
+        &rt,
+        alloc,
+        b"CREATE VIEW v AS SELECT 'x",
+        b"{\"program\":\"open text\",\"at\":24}\n",
+    )?;
+    text_is_refused(
+        &rt,
+        alloc,
+        b"CREATE VIEW v AS SELECT \"x",
+        b"{\"program\":\"open name\",\"at\":24}\n",
+    )?;
+    text_is_refused(
+        &rt,
+        alloc,
+        b"/* x",
+        b"{\"program\":\"open comment\",\"at\":0}\n",
+    )?;
+    text_is_refused(
+        &rt,
+        alloc,
+        b"SELECT 9223372036854775809",
+        b"{\"program\":\"long number\",\"at\":7}\n",
+    )?;
+    Ok(())
+}
+
+// A view that selects `a` in so many parentheses.
+fn nested(alloc: Global, depth: usize) -> Result<Vec<u8>, AllocError> {
+    let mut statement = Vec::from_slice(alloc, b"CREATE VIEW v AS SELECT ")?;
+    for _ in 0..depth {
+        statement.push(b'(')?;
+    }
+    statement.push(b'a')?;
+    for _ in 0..depth {
+        statement.push(b')')?;
+    }
+    statement.extend_from_slice(b" AS b FROM t")?;
+    Ok(statement)
+}
+
+#[test]
+fn faults_of_grammar_name_their_statement(rt: HostRuntime) -> Result<(), Fail> {
+    let alloc = rt.alloc();
+    let told = b"{\"program\":\"not grammar\",\"statement\":2}\n";
+    second_is_refused(
+        &rt,
+        alloc,
+        b"CREATE VIEW v AS SELECT t.a FROM t RIGHT JOIN t y ON t.a = y.a",
+        told,
+    )?;
+    second_is_refused(&rt, alloc, b"CREATE VIEW v AS SELECT a, FROM t", told)?;
+    second_is_refused(&rt, alloc, &nested(alloc, 64)?, NOT_BUILT)?;
+    second_is_refused(
+        &rt,
+        alloc,
+        &nested(alloc, 65)?,
+        b"{\"program\":\"too deep\",\"statement\":2}\n",
+    )?;
+    text_is_refused(
+        &rt,
+        alloc,
+        b";; CREATE",
+        b"{\"program\":\"not grammar\",\"statement\":3}\n",
+    )?;
+    Ok(())
+}
+
+#[test]
+fn the_program_may_be_laid_out_otherwise(rt: HostRuntime) -> Result<(), Fail> {
+    let alloc = rt.alloc();
+    let block_0 = b"{\"tick\":0,\"accepted\":true}\n";
+    let text =
+        b"-- rows\ncreate table T(A integer null);/* all */CREATE VIEW \"v\" AS (SELECT ALL * FROM t);;\n---\n";
+    ends(&rt, alloc, text, block_0, b"", Status::Done)?;
+    // Other types, names, items and numbers of statements are other programs.
+    text_is_refused(
+        &rt,
+        alloc,
+        b"CREATE TABLE t (a INT); CREATE VIEW v AS SELECT * FROM t",
+        NOT_BUILT,
+    )?;
+    text_is_refused(
+        &rt,
+        alloc,
+        b"CREATE TABLE t (a INTEGER); CREATE VIEW v AS SELECT a FROM t",
+        NOT_BUILT,
+    )?;
+    text_is_refused(
+        &rt,
+        alloc,
+        b"CREATE TABLE t (a INTEGER); CREATE LOCAL VIEW v AS SELECT * FROM t",
+        NOT_BUILT,
+    )?;
+    text_is_refused(
+        &rt,
+        alloc,
+        b"CREATE TABLE t (a INTEGER);; CREATE VIEW v AS SELECT * FROM t",
+        NOT_BUILT,
+    )?;
+    text_is_refused(
+        &rt,
+        alloc,
+        b"CREATE TABLE t (a INTEGER); CREATE VIEW v AS SELECT * FROM t WHERE 1 = 1",
+        NOT_BUILT,
+    )?;
+    Ok(())
+}
