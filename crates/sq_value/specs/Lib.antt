@@ -2,3 +2,4 @@ pub mod Order
 pub mod OrderLaws
 pub mod Hash
 pub mod Count
+pub mod Truth

@@ -6,7 +6,7 @@ ghost use Rattle.sq_value.specs.declared.value.Value.{Value as Datum};
 ghost use Rattle.sq_value.specs.Count.{count};
 ghost use Rattle.sq_value.specs.Order.{row_cmp, text_cmp, value_cmp};
 
-use crate::{NoMemory, Row, Str, Value};
+use crate::{NoMemory, Row, Str, Tri, Value};
 
 /// Texts are in a total order, in which only the same text is equal.
 pub fn order_of_texts()
@@ -41,5 +41,6 @@ fn data_crosses_threads() {
     is_send_and_sync::<Str>();
     is_send_and_sync::<Value>();
     is_send_and_sync::<Row>();
+    is_send_and_sync::<Tri>();
     is_send_and_sync::<NoMemory>();
 }

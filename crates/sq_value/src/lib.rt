@@ -1,4 +1,4 @@
-//! Values, texts and rows: the data that every other crate of Keltzumba speaks of.
+//! Values, texts, rows and truth values: the data that every other crate of Keltzumba speaks of.
 #![tactic(auto)]
 
 pub mod laws;
@@ -7,9 +7,11 @@ mod row;
 #[cfg(test)]
 mod tests;
 mod text;
+mod tri;
 mod value;
 
 pub use memory::NoMemory;
 pub use row::Row;
 pub use text::Str;
+pub use tri::Tri;
 pub use value::Value;

@@ -1,5 +1,5 @@
 // What no clause says: that calls succeed with ample memory, and that the orders are the intended ones.
-use crate::{NoMemory, Row, Str, Value};
+use crate::{NoMemory, Row, Str, Tri, Value};
 use std::alloc::Global;
 use std::convert::AsStr;
 use std::hash::{DefaultHasher, Hash, Hasher};
@@ -82,4 +82,17 @@ fn rows_go_column_by_column(rt: HostRuntime) -> Result<(), Fail> {
     rows.push(row_of(alloc, &[Some(2), Some(1)])?)?;
     check_ascending(&rt, rows);
     Ok(())
+}
+
+#[test]
+fn truth_goes_from_false_to_true(rt: HostRuntime) {
+    let all = [Tri::False, Tri::Unknown, Tri::True];
+    for a in all {
+        for b in all {
+            assert_eq!(rt; a.and(b), a.min(b));
+            assert_eq!(rt; a.or(b), a.max(b));
+        }
+    }
+    assert_eq!(rt; all.map(Tri::not), [Tri::True, Tri::Unknown, Tri::False]);
+    assert!(rt; Tri::False < Tri::Unknown && Tri::Unknown < Tri::True);
 }
