@@ -1,0 +1,14 @@
+pub mod Trees
+pub mod Equations
+pub mod Lists
+pub mod Parts
+pub mod Within
+pub mod Exact
+pub mod FitsLemmas
+pub mod Truths
+pub mod Limits
+pub mod Names
+pub mod Kept
+pub mod Rows
+pub mod Typed
+pub mod SameLemmas

@@ -1,0 +1,9 @@
+pub mod Kinds
+pub mod Meaning
+pub mod Typing
+pub mod Bounds
+pub mod Columns
+pub mod Fits
+pub mod Wrapping
+pub mod Items
+pub mod Same
