@@ -16,13 +16,13 @@ module _ {K : Type 0} (R : K → K → Ordering) where
   abbrev pub weighed : (K → ℤ) → List K → List (K × ℤ)
   weighed f ks = map (λ k. (k, f k)) ks
 
-  keys-weighed : (f : K → ℤ) (ks : List K) → keys (weighed f ks) ≡ ks
+  pub keys-weighed : (f : K → ℤ) (ks : List K) → keys (weighed f ks) ≡ ks
   keys-weighed f [] = refl
   keys-weighed f (k ∷ ks) = ap (λ rest. k ∷ rest) (keys-weighed f ks)
 
   module _ (identical : IsAntisymmetric R) (f : K → ℤ) where
     -- a key that stands in the list once has its weight, and one that does not stand there has none
-    weight_in-weighed : (k : K) (ks : List K) → (count R k ks ≡ 0 → weight_in R k (weighed f ks) ≡ pos 0) × (count R k ks ≡ 1 → weight_in R k (weighed f ks) ≡ f k)
+    pub weight_in-weighed : (k : K) (ks : List K) → (count R k ks ≡ 0 → weight_in R k (weighed f ks) ≡ pos 0) × (count R k ks ≡ 1 → weight_in R k (weighed f ks) ≡ f k)
     weight_in-weighed k [] = (λ _. refl, λ e. absurd (omega arith))
     weight_in-weighed k (x ∷ ks) =
         let step = count-cons R k x ks in

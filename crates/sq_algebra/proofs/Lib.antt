@@ -1,7 +1,22 @@
 mod Tests
+pub mod AbelianLemmas
+pub mod PairLemmas
 pub mod Sums
 pub mod Lists
 pub mod Weights
 pub mod Changes
 pub mod Merges
 pub mod Places
+pub mod GroupLemmas
+pub mod LinearLemmas
+pub mod OperatorLemmas
+pub mod ListLemmas
+pub mod KeyedLemmas
+pub mod CompositionLemmas
+pub mod ShardLemmas
+pub mod GroupingLemmas
+pub mod MemberLemmas
+pub mod NonNegativeLemmas
+pub mod JoinLemmas
+pub mod EntryLemmas
+pub mod PaddingLemmas

@@ -5,32 +5,20 @@ use Rattle.std.specs.List.{list_all}
 use Rattle.std.specs.Cmp.{IsTotalOrder}
 use Rattle.std.specs.FinMap.{IsAntisymmetric}
 use Rattle.std.proofs.lemmas.Cmp.{tied_itself, alike_right}
-use Rattle.std.proofs.lemmas.Bool.Decides.{Decides-int_eq}
 use borrow.Author.Differences.{ints}
 use Rattle.sq_algebra.specs.Listed.{count, is_below_all, is_ascending}
 use Rattle.sq_algebra.specs.ZSet.{int_sum_by, keys, is_nonzero, weight_in, is_canonical, in_front, add, collect, ZSet, entries, entries_canonical, same_entries, zero, from_entries, entries-from_entries, entries-zero, from_pairs, single, of_list, weight, total, plus, negate, minus}
+use Rattle.sq_algebra.specs.Groups.{integers}
 use Rattle.sq_algebra.proofs.Tests.{both, first, second, less}
 use Rattle.sq_algebra.proofs.Sums.{int_sum_by-append, int_sum_by-map, int_sum_by_agree, int_sum_by-negate, int_sum_by_one, int_sum_by-IsPermutation}
 use Rattle.sq_algebra.proofs.Lists.{count-cons, count-append, below_less}
-
-pub zero_from : (n : ℤ) → int_eq n (pos 0) ≡ true → n ≡ pos 0
-zero_from n e = (Decides-int_eq n (pos 0)).0 e
-
-pub nonzero_from : (n : ℤ) → T (is_nonzero n) → n ≡ pos 0 → ⊥
-nonzero_from n h e = subst (λ b. T (not b)) ((Decides-int_eq n (pos 0)).1 e) h
-
-pub nonzero_T : (n : ℤ) → (n ≡ pos 0 → ⊥) → T (is_nonzero n)
-nonzero_T n h = elim (int_eq n (pos 0)) as (λ b. int_eq n (pos 0) ≡ b → T (not b)) [ true ↦ λ e. absurd (h (zero_from n e)) | false ↦ λ e. tt ] refl
+use Rattle.sq_algebra.proofs.AbelianLemmas.{integers-IsAbelian}
+use Rattle.sq_algebra.proofs.PairLemmas.{lin_of-collect, weight_in_is, total_in_is}
+pub use Rattle.sq_algebra.proofs.PairLemmas.{zero_from, nonzero_from, nonzero_T}
 
 negated : (b : Bool) (n : ℤ) → cond b (neg_ℤ n) (pos 0) ≡ neg_ℤ (cond b n (pos 0))
 negated true n = refl
 negated false n = refl
-
--- a function of a key and a weight that is additive in the weight, and takes no account of which of the keys that tie it is given
-pub record IsAdditive {K : Type 0} (R : K → K → Ordering) (f : K → ℤ → ℤ) : Type 0 where
-  pub of_zero : (k : K) → f k (pos 0) ≡ pos 0
-  pub of_sum : (k : K) (m n : ℤ) → f k (m +ℤ n) ≡ f k m +ℤ f k n
-  pub tied : (j k : K) (n : ℤ) → R j k ≡ Equal → f j n ≡ f k n
 
 -- what it says of a list of pairs with p in front that it is canonical
 pub record FrontOf {K : Type 0} (R : K → K → Ordering) (p : K × ℤ) (ps : List (K × ℤ)) : Type 0 where
@@ -40,40 +28,6 @@ pub record FrontOf {K : Type 0} (R : K → K → Ordering) (p : K × ℤ) (ps : 
 
 -- ---- lists of pairs
 module _ {K : Type 0} (R : K → K → Ordering) where
-  -- the sum of an additive function over a list of pairs
-  abbrev pub sum_of : (K → ℤ → ℤ) → List (K × ℤ) → ℤ
-  sum_of f ps = int_sum_by (λ p. f p.0 p.1) ps
-
-  module _ (f : K → ℤ → ℤ) (additive : IsAdditive R f) where
-    sum_of-in_front : (k : K) (n : ℤ) (ps : List (K × ℤ)) → sum_of f (in_front k n ps) ≡ f k n +ℤ sum_of f ps
-    sum_of-in_front k n ps =
-        elim (int_eq n (pos 0)) as (λ b. int_eq n (pos 0) ≡ b → int_sum_by (λ p. f p.0 p.1) (cond b ps ((k, n) ∷ ps)) ≡ f k n +ℤ int_sum_by (λ p. f p.0 p.1) ps) [
-          | true ↦ λ e. let nothing = ap (f k) (zero_from n e) ∙ additive.of_zero k in omega (arith, ints)
-          | false ↦ λ e. refl
-        ] refl
-
-    -- the one induction on which the laws of the weight and of the total rest
-    pub sum_of-add : (k : K) (n : ℤ) (ps : List (K × ℤ)) → sum_of f (add R k n ps) ≡ f k n +ℤ sum_of f ps
-    sum_of-add k n [] = sum_of-in_front k n []
-    sum_of-add k n (p ∷ ps) =
-        elim (R k p.0) as (λ r. R k p.0 ≡ r → int_sum_by (λ p. f p.0 p.1) (match_ordering r (in_front k n (p ∷ ps)) (in_front p.0 (n +ℤ p.1) ps) (p ∷ add R k n ps)) ≡ f k n +ℤ (f p.0 p.1 +ℤ int_sum_by (λ p. f p.0 p.1) ps)) [
-          | Less ↦ λ e. sum_of-in_front k n (p ∷ ps)
-          | Equal ↦ λ e.
-              let front = sum_of-in_front p.0 (n +ℤ p.1) ps in
-              let parts = additive.of_sum p.0 n p.1 in
-              let same = additive.tied k p.0 n e in
-              omega (arith, ints)
-          | Greater ↦ λ e. let rest = sum_of-add k n ps in omega (arith, ints)
-        ] refl
-
-    pub sum_of-collect : (ps : List (K × ℤ)) → sum_of f (collect R ps) ≡ sum_of f ps
-    sum_of-collect [] = refl
-    sum_of-collect (p ∷ ps) = sum_of-add p.0 p.1 (collect R ps) ∙ ap (λ n. f p.0 p.1 +ℤ n) (sum_of-collect ps)
-
-  total_is_additive : IsAdditive R (λ _ n. n)
-  total_is_additive = record { of_zero = λ _. refl; of_sum = λ _ m n. refl; tied = λ _ _ _ _. refl }
-
-  -- ---- canonical lists
   pub is_below_all-add : (j k : K) (n : ℤ) (ps : List (K × ℤ)) → T (is_lt (R j k)) → T (is_below_all R j (keys ps)) → T (is_below_all R j (keys (add R k n ps)))
   is_below_all-add j k n [] p h = elim (int_eq n (pos 0)) as (λ b. T (is_below_all R j (keys (cond b [] ((k, n) ∷ []))))) [ true ↦ tt | false ↦ both _ _ p tt ]
   is_below_all-add j k n (e ∷ es) p h =
@@ -121,13 +75,6 @@ module _ {K : Type 0} (R : K → K → Ordering) where
   canonical_from ps g h = both (is_ascending R (keys ps)) (list_all (λ q. is_nonzero q.1) ps) g h
 
   module _ (o : IsTotalOrder R) where
-    weight_is_additive : (k : K) → IsAdditive R (λ j n. cond (is_eq (R k j)) n (pos 0))
-    weight_is_additive k = record {
-      of_zero = λ j. elim (is_eq (R k j)) as (λ b. ◌≡◌ {A = ℤ} (cond b (pos 0) (pos 0)) (pos 0)) [ true ↦ refl | false ↦ refl ];
-      of_sum = λ j m n. elim (is_eq (R k j)) as (λ b. cond b (m +ℤ n) (pos 0) ≡ cond b m (pos 0) +ℤ cond b n (pos 0)) [ true ↦ refl | false ↦ refl ];
-      tied = λ i j n e. ap (λ r. cond (is_eq r) n (pos 0)) (alike_right o i j k e);
-    }
-
     is_ascending-add : (k : K) (n : ℤ) (ps : List (K × ℤ)) → T (is_ascending R (keys ps)) → T (is_ascending R (keys (add R k n ps)))
     is_ascending-add k n [] h = elim (int_eq n (pos 0)) as (λ b. T (is_ascending R (keys (cond b [] ((k, n) ∷ []))))) [ true ↦ tt | false ↦ tt ]
     is_ascending-add k n (p ∷ ps) h =
@@ -148,7 +95,10 @@ module _ {K : Type 0} (R : K → K → Ordering) where
     is_canonical-collect (p ∷ ps) = is_canonical-add p.0 p.1 (collect R ps) (is_canonical-collect ps)
 
     pub weight_in-collect : (k : K) (ps : List (K × ℤ)) → weight_in R k (collect R ps) ≡ weight_in R k ps
-    weight_in-collect k ps = sum_of-collect (λ j n. cond (is_eq (R k j)) n (pos 0)) (weight_is_additive k) ps
+    weight_in-collect k ps =
+        weight_in_is R k (collect R ps)
+        ∙ lin_of-collect R integers integers-IsAbelian (λ j. cond (is_eq (R k j)) (pos 1) (pos 0)) (λ i j e. ap (λ r. cond (is_eq r) (pos 1) (pos 0)) (alike_right o i j k e)) ps
+        ∙ sym (weight_in_is R k ps)
 
     -- a key below all keys of a list has no weight in it
     pub weight_in_none : (k : K) (ps : List (K × ℤ)) → T (is_below_all R k (keys ps)) → weight_in R k ps ≡ pos 0
@@ -237,7 +187,11 @@ module _ {K : Type 0} (R : K → K → Ordering) where
 
     pub total-from_pairs : (ps : List (K × ℤ)) → total (from_pairs R ps) ≡ int_sum_by (λ p. p.1) ps
     unfolding total
-    total-from_pairs ps = ap (λ es. int_sum_by (λ e. e.1) es) (entries-from_pairs ps) ∙ sum_of-collect R (λ _ n. n) (total_is_additive R) ps
+    total-from_pairs ps =
+        ap (λ es. int_sum_by (λ e. e.1) es) (entries-from_pairs ps)
+        ∙ total_in_is (collect R ps)
+        ∙ lin_of-collect R integers integers-IsAbelian (λ _. pos 1) (λ _ _ _. refl) ps
+        ∙ sym (total_in_is ps)
 
     pub weight-single : (k j : K) → weight k (single R j) ≡ cond (is_eq (R k j)) (pos 1) (pos 0)
     unfolding single

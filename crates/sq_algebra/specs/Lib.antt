@@ -1,2 +1,5 @@
 pub mod Listed
 pub mod ZSet
+pub mod Groups
+pub mod Operators
+pub mod Keyed

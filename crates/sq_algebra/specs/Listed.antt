@@ -1,10 +1,17 @@
 -- Lists in which a key may stand several times: how often it stands there, the keys in order, and the keys by which two lists differ.
 --     count R k xs      the number of places of xs that hold k.    is_ascending R xs      whether each key of xs is below all later ones
 --     in_order R xs     the keys of xs, each once, ascending.      changed R before now   the keys whose counts in the two lists differ, ascending
+--     first_of_each R xs     the keys of xs, each once, as they first appear.      among R xs ys, without R xs ys   the keys of xs that ys has, and those that it has not
+--     or_one xs x     xs, or x alone where xs has no members
 use Rattle.std.specs.Prelude.{ℕ, List, [], ◌∷◌, ◌++◌, Bool, true, ◌&&◌, ◌==◌, not}
 use Rattle.std.specs.List.{count_by, filter}
 use Rattle.std.specs.declared.cmp.Ordering.{Ordering}
 use Rattle.std.specs.Ordering.{is_eq, is_lt, match_ordering}
+
+-- a list, or one member in the place of none
+abbrev pub or_one : {X : Type 0} → List X → X → List X
+or_one [] x = x ∷ []
+or_one (y ∷ ys) x = y ∷ ys
 
 module _ {K : Type 0} (R : K → K → Ordering) where
   -- the number of places of a list that hold k
@@ -34,3 +41,15 @@ module _ {K : Type 0} (R : K → K → Ordering) where
   -- the keys whose counts in the two lists differ, ascending
   abbrev pub changed : List K → List K → List K
   changed before now = filter (λ k. not (count k before == count k now)) (in_order (before ++ now))
+
+  -- the keys of a list, each once, in the order in which they first appear
+  abbrev pub first_of_each : List K → List K
+  first_of_each [] = []
+  first_of_each (x ∷ xs) = x ∷ filter (λ y. not (is_eq (R x y))) (first_of_each xs)
+
+  -- the members of a list that stand in another one too, and those that do not
+  abbrev pub among : List K → List K → List K
+  among xs ys = filter (λ x. not (count x ys == 0)) xs
+
+  abbrev pub without : List K → List K → List K
+  without xs ys = filter (λ x. count x ys == 0) xs

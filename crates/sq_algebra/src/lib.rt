@@ -2,7 +2,22 @@
 //!
 //! No code here runs. Each function has an empty body, and its contract is a law. The laws hold for every type of keys;
 //! where one has the premise `IsAntisymmetric`, the order of the keys answers `Equal` only at identical keys.
+//!
+//! Weights, totals and lists stand here; `groups` has abelian groups and sums; `linear` the linear extension of a function
+//! on keys, from which the laws of the operators follow (`operators`, `products`); `keyed` sums over the keys of parts;
+//! `shards` parts by shard; `from_lists` what is done to lists as it is done to their Z-sets; `members` and `nonnegative`
+//! entries, and Z-sets that are lists.
 #![tactic(auto)]
+
+pub mod from_lists;
+pub mod groups;
+pub mod keyed;
+pub mod linear;
+pub mod members;
+pub mod nonnegative;
+pub mod operators;
+pub mod products;
+pub mod shards;
 
 ghost use Rattle.std.specs.Prelude.{◌≡◌, ◌==◌, ◌<◌, ℕ, slice_get, Some, ◌++◌, ℤ, List, pos, ◌+ℤ◌, ◌-ℤ◌, neg_ℤ, map, length, IsTrue, if◌then◌else◌};
 ghost use Rattle.std.specs.FinMap.{IsAntisymmetric};

@@ -1,0 +1,17 @@
+use Rattle.sq_algebra.proofs.OperatorLemmas.{image-of_list, image-of_list-map, keep-of_list, of_list-nil, of_list-one}
+use Rattle.sq_algebra.proofs.from_lists.lists_are_mapped.Goals as goal
+
+pub returns-clause-none : goal.returns-clause-none
+returns-clause-none g c = of_list-nil g.K.Ord.cmp g.met.K.Ord.total
+
+pub returns-clause-one : goal.returns-clause-one
+returns-clause-one g c = of_list-one g.K.Ord.cmp
+
+pub returns-clause-filtered : goal.returns-clause-filtered
+returns-clause-filtered g c = keep-of_list g.K.Ord.cmp g.met.K.Ord.total
+
+pub returns-clause-mapped : goal.returns-clause-mapped
+returns-clause-mapped g c identical one = image-of_list-map g.L.Ord.cmp g.met.L.Ord.total one g.K.Ord.cmp g.met.K.Ord.total identical
+
+pub returns-clause-flat_mapped : goal.returns-clause-flat_mapped
+returns-clause-flat_mapped g c identical one = image-of_list g.L.Ord.cmp g.met.L.Ord.total one g.K.Ord.cmp g.met.K.Ord.total identical

@@ -1,0 +1,5 @@
+use Rattle.sq_algebra.proofs.GroupLemmas.{bilinear_change}
+use Rattle.sq_algebra.proofs.groups.bilinear_maps_change.Goals as goal
+
+pub returns : goal.returns
+returns g c = bilinear_change

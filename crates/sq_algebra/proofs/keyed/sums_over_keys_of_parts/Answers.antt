@@ -1,0 +1,11 @@
+use Rattle.sq_algebra.proofs.KeyedLemmas.{by_key_agree, by_key_at_key, by_key_inside}
+use Rattle.sq_algebra.proofs.keyed.sums_over_keys_of_parts.Goals as goal
+
+pub returns-clause-same : goal.returns-clause-same
+returns-clause-same g c key G = by_key_agree g.C.Ord.cmp g.K.Ord.cmp key G
+
+pub returns-clause-inside : goal.returns-clause-inside
+returns-clause-inside g c key G laws H others = by_key_inside g.C.Ord.cmp g.K.Ord.cmp key G laws H others
+
+pub returns-clause-one_key : goal.returns-clause-one_key
+returns-clause-one_key g c alike identical key G laws = by_key_at_key g.C.Ord.cmp g.met.C.Ord.total alike g.K.Ord.cmp g.met.K.Ord.total identical key G laws

@@ -1,0 +1,5 @@
+use Rattle.sq_algebra.proofs.OperatorLemmas.{product-change}
+use Rattle.sq_algebra.proofs.products.products_change.Goals as goal
+
+pub returns : goal.returns
+returns g c alike identical one f = product-change g.L.Ord.cmp g.met.L.Ord.total one g.J.Ord.cmp g.met.J.Ord.total alike g.K.Ord.cmp g.met.K.Ord.total identical f
