@@ -1,5 +1,5 @@
 -- What the list that a Z-set holds says of the Z-set.
-use Rattle.std.proofs.Common.{◌≡◌, ℕ, zero, suc, ◌<◌, ◌≤◌, ◌+◌, ◌*◌, ◌^◌, List, [], ◌∷◌, length, get_or, slice_get, Bool, true, false, cond, not, T, ℤ, pos, negsuc, ◌+ℤ◌, unsigned_abs, Some, None, Result, Ok, Err, HoldsAt, ◌⊎◌, inl, inr, Less, Equal, Greater, is_eq, zero-le, leb-true, lit≤, take, take_all, refl, sym, ap, ap₂, subst, subst₂, ◌∙◌, arith, SFits, to_z, of_z, w64}
+use Rattle.std.proofs.Common.{◌≡◌, ℕ, zero, suc, ◌<◌, ◌≤◌, ◌+◌, ◌*◌, ◌^◌, ◌==◌, List, [], ◌∷◌, length, get_or, slice_get, Bool, true, false, cond, not, T, ℤ, pos, negsuc, ◌+ℤ◌, unsigned_abs, Some, None, Result, Ok, Err, HoldsAt, ◌⊎◌, inl, inr, Less, Equal, Greater, is_eq, zero-le, leb-true, lit≤, take, take_all, refl, sym, ap, ap₂, subst, subst₂, ◌∙◌, arith, SFits, to_z, of_z, w64}
 use Rattle.std.proofs.lemmas.Option.{slice_get_read}
 use Rattle.std.specs.Ordering.{ordering_reverse}
 use Rattle.std.specs.List.Sorted.{IsBinarySearchResult, IsPartitionPoint}
@@ -33,6 +33,17 @@ entries_shown es z sound shown = ap entries (sym shown) ∙ entries-from_entries
 
 pub from_no_entries : (es : List (List Value × ℤ)) → es ≡ [] → from_entries row_cmp es ≡ no_rows row_cmp
 from_no_entries es e = ap (from_entries row_cmp) e ∙ same_entries (from_entries row_cmp []) (no_rows row_cmp) (entries-from_entries row_cmp [] tt ∙ sym (entries-zero row_cmp))
+
+pub no_entries : (es : List (List Value × ℤ)) (z : ZSet (List Value) row_cmp) → IsSound es → from_entries row_cmp es ≡ z → z ≡ no_rows row_cmp → es ≡ []
+no_entries es z sound shown none = sym (entries_shown es z sound shown) ∙ ap entries none ∙ entries-zero row_cmp
+
+-- the test whether any entry is held
+pub tested_empty : (es : List (List Value × ℤ)) (z : ZSet (List Value) row_cmp) (n : ℕ) (b : Bool) → IsSound es → from_entries row_cmp es ≡ z → n ≡ length es → b ≡ (n == 0) → (b ≡ true → z ≡ no_rows row_cmp) × (z ≡ no_rows row_cmp → b ≡ true)
+tested_empty [] z n b sound shown len test = (λ _. sym shown ∙ from_no_entries [] refl, λ _. test ∙ ap (λ m. m == 0) len)
+tested_empty (e ∷ es) z n b sound shown len test =
+    let some : (suc (length es) == 0) ≡ false = grind arith in
+    let answer : b ≡ false = test ∙ ap (λ m. m == 0) len ∙ some in
+    (λ none. cc, λ none. cc (no_entries (e ∷ es) z sound shown none))
 
 -- a place below the number of entries is below the length that is held
 pub place_low : (es : List (List Value × ℤ)) (z : ZSet (List Value) row_cmp) (n i : ℕ) → IsSound es → from_entries row_cmp es ≡ z → n ≡ length es → i < length (entries z) → i < n

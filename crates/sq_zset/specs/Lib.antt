@@ -3,3 +3,4 @@ pub mod Range
 pub mod Inside
 pub mod Merge
 pub mod Collecting
+pub mod GroupLaws

@@ -1,11 +1,16 @@
 //! Laws of Z-sets of rows, each as the contract of a function that does nothing.
-ghost use Rattle.std.specs.Prelude.{◌≡◌, List, pos, ◌-ℤ◌, map};
+ghost use Rattle.std.specs.Prelude.{◌≡◌, List, ◌++◌, length, Bool, pos, neg_ℤ, ◌+ℤ◌, ◌-ℤ◌, map, if◌then◌else◌};
+ghost use Rattle.std.specs.List.{filter, flat_map};
+ghost use Rattle.std.specs.Ordering.{is_eq};
 ghost use Rattle.sq_value.specs.declared.value.Value.{Value as Datum};
 ghost use Rattle.sq_value.specs.Order.{row_cmp};
-ghost use Rattle.sq_algebra.specs.Listed.{count, changed};
-ghost use Rattle.sq_algebra.specs.ZSet.{entries, of_list, minus};
+ghost use Rattle.sq_algebra.specs.Groups.{IsAbelian, IsAdditive, z_sets};
+ghost use Rattle.sq_algebra.specs.Keyed.{at_key};
+ghost use Rattle.sq_algebra.specs.Listed.{count, changed, first_of_each, among, without};
+ghost use Rattle.sq_algebra.specs.Operators.{image, keep, distinct, product, meet};
+ghost use Rattle.sq_algebra.specs.ZSet.{ZSet as Weighted, entries, zero, single, of_list, weight, total, plus, negate, minus};
 
-use crate::{Pair, ZFault, ZSet};
+use crate::{Group, Pair, ZFault, ZSet};
 use sq_algebra::changes_are_differences;
 use sq_value::Row;
 
@@ -15,6 +20,51 @@ pub fn changes_of_rows()
 {
     changes_are_differences::<Row>();
 }
+
+/// The laws of an abelian group hold of the addition of every group.
+pub fn groups_are_abelian<G: Group>()
+    ensures { IsAbelian G.addition }
+{}
+
+/// The weights of its rows decide a Z-set. The weight of a row in the empty Z-set, in that of one row, and in a sum, a
+/// negation, a difference and the Z-set of a list.
+pub fn rows_have_weights()
+    ensures decide { (y z : Weighted (List Datum) row_cmp) → ((row : List Datum) → weight row y ≡ weight row z) → y ≡ z }
+    ensures none { (row : List Datum) → weight row (zero row_cmp) ≡ pos 0 }
+    ensures one { (row other : List Datum) → weight row (single row_cmp other) ≡ (if is_eq (row_cmp row other) then pos 1 else pos 0) }
+    ensures sum { (row : List Datum) (y z : Weighted (List Datum) row_cmp) → weight row (plus y z) ≡ weight row y +ℤ weight row z }
+    ensures negation { (row : List Datum) (z : Weighted (List Datum) row_cmp) → weight row (negate z) ≡ neg_ℤ (weight row z) }
+    ensures difference { (row : List Datum) (y z : Weighted (List Datum) row_cmp) → weight row (minus y z) ≡ weight row y -ℤ weight row z }
+    ensures list { (row : List Datum) (rows : List (List Datum)) → weight row (of_list row_cmp rows) ≡ pos (count row_cmp row rows) }
+{}
+
+/// The total of a sum, a negation, a difference and the Z-set of a list of rows.
+pub fn rows_have_totals()
+    ensures sum { (y z : Weighted (List Datum) row_cmp) → total (plus y z) ≡ total y +ℤ total z }
+    ensures negation { (z : Weighted (List Datum) row_cmp) → total (negate z) ≡ neg_ℤ (total z) }
+    ensures difference { (y z : Weighted (List Datum) row_cmp) → total (minus y z) ≡ total y -ℤ total z }
+    ensures list { (rows : List (List Datum)) → total (of_list row_cmp rows) ≡ pos (length rows) }
+{}
+
+/// Images of rows, the rows that pass a test, the rows with a key, and products, in each of their sides, are additive.
+pub fn operators_on_rows_are_additive()
+    ensures image { (f : List Datum → List (List Datum)) → IsAdditive (z_sets row_cmp) (z_sets row_cmp) (image row_cmp f) }
+    ensures test { (p : List Datum → Bool) → IsAdditive (z_sets row_cmp) (z_sets row_cmp) (keep p) }
+    ensures key { (key : List Datum → List Datum) (c : List Datum) → IsAdditive (z_sets row_cmp) (z_sets row_cmp) (at_key row_cmp key c) }
+    ensures left { (f : List Datum → List Datum → List (List Datum)) (z : Weighted (List Datum) row_cmp) → IsAdditive (z_sets row_cmp) (z_sets row_cmp) (λ y. product row_cmp f y z) }
+    ensures right { (f : List Datum → List Datum → List (List Datum)) (y : Weighted (List Datum) row_cmp) → IsAdditive (z_sets row_cmp) (z_sets row_cmp) (product row_cmp f y) }
+{}
+
+/// What operators on Z-sets do to the Z-sets of lists of rows, said by what happens to the lists.
+pub fn operators_on_rows_follow_lists()
+    ensures joined { (rows more : List (List Datum)) → of_list row_cmp (rows ++ more) ≡ plus (of_list row_cmp rows) (of_list row_cmp more) }
+    ensures image { (f : List Datum → List (List Datum)) (rows : List (List Datum)) → image row_cmp f (of_list row_cmp rows) ≡ of_list row_cmp (flat_map f rows) }
+    ensures test { (p : List Datum → Bool) (rows : List (List Datum)) → keep p (of_list row_cmp rows) ≡ of_list row_cmp (filter p rows) }
+    ensures product { (f : List Datum → List Datum → List (List Datum)) (rows others : List (List Datum)) → product row_cmp f (of_list row_cmp rows) (of_list row_cmp others) ≡ of_list row_cmp (flat_map (λ row. flat_map (f row) others) rows) }
+    ensures distinct { (rows : List (List Datum)) → distinct (of_list row_cmp rows) ≡ of_list row_cmp (first_of_each row_cmp rows) }
+    ensures among { (rows others : List (List Datum)) → of_list row_cmp (among row_cmp rows others) ≡ meet (of_list row_cmp rows) (distinct (of_list row_cmp others)) }
+    ensures without { (rows others : List (List Datum)) → of_list row_cmp (without row_cmp rows others) ≡ minus (of_list row_cmp rows) (meet (of_list row_cmp rows) (distinct (of_list row_cmp others))) }
+{}
 
 fn is_send_and_sync<T: Send + Sync>() {}
 

@@ -4,6 +4,7 @@
 #![tactic(auto)]
 
 mod collect;
+mod group;
 pub mod laws;
 mod merge;
 mod pair;
@@ -11,5 +12,6 @@ mod pair;
 mod tests;
 mod zset;
 
+pub use group::Group;
 pub use pair::{Pair, ZFault};
 pub use zset::ZSet;

@@ -1,17 +1,54 @@
-ghost use Rattle.std.specs.Prelude.{◌≡◌, ◌++◌, [], ℤ, false, IsTrue, IfOk, OnOk, OnErr, IfErr, Some, None, MatchOption};
+ghost use Rattle.std.specs.Prelude.{◌≡◌, ◌++◌, ◌≤◌, ◌^◌, [], ℤ, false, unsigned_abs, IsTrue, IfOk, OnOk, OnErr, IfErr, Some, None, MatchOption};
 ghost use Rattle.sq_value.specs.Order.{row_cmp};
-ghost use Rattle.sq_algebra.specs.ZSet.{in_front, difference};
+ghost use Rattle.sq_algebra.specs.ZSet.{in_front};
 ghost use Rattle.sq_zset.specs.Inside.{IsSound};
-ghost use Rattle.sq_zset.specs.Merge.{first_rows_cmp, BeginsWith};
+ghost use Rattle.sq_zset.specs.Merge.{first_rows_cmp, BeginsWith, signed, signed_entries, merged};
 ghost use Rattle.sq_zset.specs.Range.{is_in_range, first_outside_in};
 
 use crate::ZFault;
-use sq_value::Row;
+use sq_value::{NoMemory, Row};
 use std::alloc::Global;
 use std::cmp::Ordering;
 
 /// How far from 0 a weight may be.
 const LIMIT: i128 = 1 << 62;
+
+/// The sign that stands in front of weights.
+#[derive(Clone, Copy, Debug, PartialEq, Eq)]
+pub enum Sign {
+    Plus,
+    Minus,
+}
+
+impl Sign {
+    /// The weight with this sign in front.
+    fn of(self, weight: i64) -> i64
+        requires { unsigned_abs weight ≤ 2 ^ 62 }
+        ensures { result ≡ signed self weight }
+    {
+        match self {
+            Sign::Plus => weight,
+            Sign::Minus => -weight,
+        }
+    }
+}
+
+/// Copies of entries, with a sign in front of each weight.
+pub fn copy_entries(
+    alloc: Global,
+    sign: Sign,
+    entries: &[(Row, i64)],
+) -> Result<Vec<(Row, i64)>, NoMemory>
+    requires { first_outside_in entries.now ≡ None }
+    ensures { IfOk result (λ list. list.items ≡ signed_entries sign entries.now) }
+{
+    let mut list = Vec::with_capacity(alloc, entries.len())?;
+    for entry in entries {
+        let row = entry.0.clone_row(alloc)?;
+        list.push((row, sign.of(entry.1)))?;
+    }
+    Ok(list)
+}
 
 /// The weight `sum`, or that it lies outside the range.
 pub fn weight_from(sum: i128) -> Result<i64, ZFault>
@@ -57,7 +94,7 @@ fn compare_first(left: &[(Row, i64)], right: &[(Row, i64)]) -> Option<Ordering>
     }
 }
 
-/// The lowest row that is left on the two sides of a merge, the difference of its weights, and how many entries it takes from each side.
+/// The lowest row that is left on the two sides of a merge, its weight in the answer, and how many entries it takes from each side.
 #[derive(Drop)]
 struct Next<'a> {
     row: &'a Row,
@@ -67,10 +104,10 @@ struct Next<'a> {
 }
 
 /// The next row of a merge, if any is left.
-fn next_row<'a>(left: &'a [(Row, i64)], right: &'a [(Row, i64)]) -> Option<Next<'a>>
+fn next_row<'a>(left: &'a [(Row, i64)], sign: Sign, right: &'a [(Row, i64)]) -> Option<Next<'a>>
     requires left_sound { IsSound left.now }
     requires right_sound { IsSound right.now }
-    ensures { MatchOption result ((left.now ≡ []) × (right.now ≡ [])) (λ next. BeginsWith left.now right.now next.row.now next.weight next.from_left next.from_right) }
+    ensures { MatchOption result ((left.now ≡ []) × (right.now ≡ [])) (λ next. BeginsWith sign left.now right.now next.row.now next.weight next.from_left next.from_right) }
 {
     match compare_first(left, right)? {
         Ordering::Less => Some(Next {
@@ -81,34 +118,35 @@ fn next_row<'a>(left: &'a [(Row, i64)], right: &'a [(Row, i64)]) -> Option<Next<
         }),
         Ordering::Equal => Some(Next {
             row: &left[0].0,
-            weight: i128::from(left[0].1) - i128::from(right[0].1),
+            weight: i128::from(left[0].1) + i128::from(sign.of(right[0].1)),
             from_left: 1,
             from_right: 1,
         }),
         Ordering::Greater => Some(Next {
             row: &right[0].0,
-            weight: -i128::from(right[0].1),
+            weight: i128::from(sign.of(right[0].1)),
             from_left: 0,
             from_right: 1,
         }),
     }
 }
 
-/// The entries of the difference of two Z-sets, made from theirs by one merge.
-pub fn difference_of(
+/// The entries of the sum or the difference of two Z-sets, made from theirs by one merge.
+pub fn merge_entries(
     alloc: Global,
     left: &[(Row, i64)],
+    sign: Sign,
     right: &[(Row, i64)],
 ) -> Result<Vec<(Row, i64)>, ZFault>
     requires left_sound { IsSound left.now }
     requires right_sound { IsSound right.now }
-    ensures ok { IfOk result (λ list. list.items ≡ difference row_cmp left.now right.now) }
+    ensures ok { IfOk result (λ list. list.items ≡ merged sign left.now right.now) }
     ensures in_range { IfOk result (λ list. first_outside_in list.items ≡ None) }
-    ensures outside { (sum : ℤ) → result ≡ Err (ZFault.Weight sum) → first_outside_in (difference row_cmp left.now right.now) ≡ Some sum }
+    ensures outside { (sum : ℤ) → result ≡ Err (ZFault.Weight sum) → first_outside_in (merged sign left.now right.now) ≡ Some sum }
 {
     let (mut left, mut right) = (left, right);
     let mut list = Vec::new(alloc);
-    while let Some(next) = next_row(left, right) {
+    while let Some(next) = next_row(left, sign, right) {
         push_weight(alloc, &mut list, next.row, next.weight)?;
         left = &left[next.from_left..];
         right = &right[next.from_right..];

@@ -1,7 +1,8 @@
-ghost use Rattle.std.specs.Prelude.{◌≡◌, ◌≤◌, ◌^◌, IfOk, unsigned_abs, sum_by};
+ghost use Rattle.std.specs.Prelude.{◌≡◌, ◌≤◌, ◌^◌, IfOk, None, unsigned_abs, sum_by};
 ghost use Rattle.sq_zset.specs.Pairs.{mass};
+ghost use Rattle.sq_zset.specs.Range.{IsInRange};
 
-use crate::{Pair, ZFault, ZSet};
+use crate::{Group, Pair, ZFault, ZSet};
 use sq_value::{NoMemory, Row, Value};
 use std::alloc::Global;
 use std::process::Abort;
@@ -29,6 +30,7 @@ fn pairs_of(alloc: Global, items: &[(i64, i128)]) -> Result<Vec<Pair>, NoMemory>
 
 fn zset_of(alloc: Global, items: &[(i64, i128)]) -> Result<ZSet, ZFault>
     requires { sum_by (λ item. unsigned_abs item.1) items.now ≤ 2 ^ 126 }
+    ensures { IfOk result IsInRange }
 {
     let pairs = pairs_of(alloc, items)?;
     ZSet::consolidate(alloc, pairs)
@@ -112,5 +114,108 @@ fn a_difference_outside_the_range_is_reported(rt: HostRuntime) -> Result<(), Fai
         most.minus(alloc, &fewer).err(),
         Some(ZFault::Weight { sum: LIMIT + 1 })
     );
+    Ok(())
+}
+
+#[test]
+fn sums_go_row_by_row(rt: HostRuntime) -> Result<(), Fail> {
+    let alloc = rt.alloc();
+    let left = zset_of(alloc, &[(1, 2)])?;
+    let right = zset_of(alloc, &[(1, -2), (2, 1)])?;
+    check_rows(&rt, alloc, &left.plus(alloc, &right)?, &[(2, 1)])?;
+    check_rows(&rt, alloc, &left.minus(alloc, &left)?, &[])?;
+    check_rows(&rt, alloc, &left.negate(alloc)?, &[(1, -2)])?;
+    Ok(())
+}
+
+#[test]
+fn sums_and_negations_reach_the_ends_of_the_range(rt: HostRuntime) -> Result<(), Fail> {
+    let alloc = rt.alloc();
+    let most = zset_of(alloc, &[(1, LIMIT), (2, 1 - LIMIT)])?;
+    let ends = most.plus(alloc, &zset_of(alloc, &[(2, -1)])?)?;
+    check_rows(
+        &rt,
+        alloc,
+        &ends.negate(alloc)?,
+        &[
+            (1, -4_611_686_018_427_387_904),
+            (2, 4_611_686_018_427_387_904),
+        ],
+    )?;
+    Ok(())
+}
+
+#[test]
+fn the_first_sum_of_two_z_sets_outside_the_range_is_reported(rt: HostRuntime) -> Result<(), Fail> {
+    let alloc = rt.alloc();
+    let ends = zset_of(alloc, &[(1, -LIMIT), (2, LIMIT)])?;
+    let further = zset_of(alloc, &[(1, -1), (2, 1)])?;
+    assert_eq!(rt;
+        ends.plus(alloc, &further).err(),
+        Some(ZFault::Weight { sum: -LIMIT - 1 })
+    );
+    Ok(())
+}
+
+// The first value again, after the second is added and taken away.
+fn there_and_back<G: Group>(alloc: Global, value: &G, step: &G) -> Result<G, ZFault>
+    requires value_in_range { G.first_outside value.now ≡ None }
+    requires step_in_range { G.first_outside step.now ≡ None }
+    ensures { IfOk result (λ back. back ≡ value.now) }
+{
+    let there = value.plus(alloc, step)?;
+    let away = step.negate(alloc)?;
+    there.plus(alloc, &away)
+}
+
+#[test]
+fn groups_of_both_types_lead_back(rt: HostRuntime) -> Result<(), Fail> {
+    let alloc = rt.alloc();
+    let z = zset_of(alloc, &[(1, 2), (3, 1)])?;
+    let step = zset_of(alloc, &[(1, -2), (2, 1)])?;
+    check_rows(
+        &rt,
+        alloc,
+        &there_and_back(alloc, &z, &step)?,
+        &[(1, 2), (3, 1)],
+    )?;
+    assert_eq!(rt; there_and_back(alloc, &5_i64, &-7)?, 5);
+    Ok(())
+}
+
+// A copy of a value, and a zero, which differs from it exactly where the value is not zero.
+fn check_copies<G: Group>(rt: &impl Abort, alloc: Global, value: &G) -> Result<G, NoMemory>
+    requires { G.first_outside value.now ≡ None }
+    ensures { IfOk result (λ copy. copy ≡ value.now) }
+{
+    assert!(rt; G::zero(alloc).is_zero());
+    assert!(rt; !value.is_zero());
+    value.clone_group(alloc)
+}
+
+#[test]
+fn groups_of_both_types_are_copied(rt: HostRuntime) -> Result<(), Fail> {
+    let alloc = rt.alloc();
+    let z = zset_of(alloc, &[(1, 2), (3, -1)])?;
+    check_rows(
+        &rt,
+        alloc,
+        &check_copies(&rt, alloc, &z)?,
+        &[(1, 2), (3, -1)],
+    )?;
+    assert_eq!(rt; check_copies(&rt, alloc, &-7_i64)?, -7);
+    Ok(())
+}
+
+#[test]
+fn whole_numbers_have_the_range_of_a_weight(rt: HostRuntime) -> Result<(), Fail> {
+    let alloc = rt.alloc();
+    let most: i64 = 4_611_686_018_427_387_904;
+    assert_eq!(rt; Group::plus(&(most - 1), alloc, &1)?, most);
+    assert_eq!(rt;
+        Group::plus(&most, alloc, &1).err(),
+        Some(ZFault::Weight { sum: LIMIT + 1 })
+    );
+    assert_eq!(rt; Group::negate(&most, alloc)?, -most);
     Ok(())
 }

@@ -4,12 +4,12 @@ ghost use Rattle.sq_value.specs.declared.value.Value.{Value as Datum};
 ghost use Rattle.sq_value.specs.Order.{row_cmp};
 ghost use Rattle.sq_zset.specs.Pairs.{mass, weighted_rows};
 ghost use Rattle.sq_zset.specs.Range.{first_outside, IsInRange};
-ghost use Rattle.sq_algebra.specs.ZSet.{entries, from_pairs, zero, minus, total, weight};
+ghost use Rattle.sq_algebra.specs.ZSet.{entries, from_pairs, zero, plus, minus, negate, total, weight};
 
 use crate::collect::{sums_of, weights_of};
-use crate::merge::difference_of;
-use crate::{Pair, ZFault};
-use sq_value::Row;
+use crate::merge::{Sign, copy_entries, merge_entries};
+use crate::{Group, Pair, ZFault};
+use sq_value::{NoMemory, Row};
 use std::alloc::Global;
 use std::marker::Model;
 
@@ -105,6 +105,18 @@ impl ZSet {
         }
     }
 
+    /// The weights of `self` and of `other` added up, row by row, by one merge that copies the rows of the answer alone.
+    ///
+    /// The answer is `Weight` exactly where some sum lies outside the range of a weight, and `Memory` where memory runs out.
+    pub fn plus(&self, alloc: Global, other: &ZSet) -> Result<ZSet, ZFault>
+        ensures ok { IfOk result (λ z. z ≡ plus self.now other.now) }
+        ensures in_range { IfOk result IsInRange }
+        ensures outside { (sum : ℤ) → result ≡ Err (ZFault.Weight sum) → first_outside (plus self.now other.now) ≡ Some sum }
+    {
+        let entries = merge_entries(alloc, &self.entries, Sign::Plus, &other.entries)?;
+        Ok(ZSet { entries })
+    }
+
     /// The weights of `self` less those of `other`, row by row, by one merge that copies the rows of the answer alone.
     ///
     /// The answer is `Weight` exactly where some difference lies outside the range of a weight, and `Memory` where memory runs out.
@@ -113,7 +125,53 @@ impl ZSet {
         ensures in_range { IfOk result IsInRange }
         ensures outside { (sum : ℤ) → result ≡ Err (ZFault.Weight sum) → first_outside (minus self.now other.now) ≡ Some sum }
     {
-        let entries = difference_of(alloc, &self.entries, &other.entries)?;
+        let entries = merge_entries(alloc, &self.entries, Sign::Minus, &other.entries)?;
         Ok(ZSet { entries })
     }
+
+    /// Each weight with the other sign, or `NoMemory` where memory runs out.
+    pub fn negate(&self, alloc: Global) -> Result<ZSet, NoMemory>
+        ensures ok { IfOk result (λ z. z ≡ negate self.now) }
+        ensures in_range { IfOk result IsInRange }
+    {
+        let entries = copy_entries(alloc, Sign::Minus, &self.entries)?;
+        Ok(ZSet { entries })
+    }
+}
+
+impl Group for ZSet {
+    ghost use Rattle.sq_algebra.specs.Groups.{z_sets};
+    ghost use Rattle.sq_value.specs.Order.{row_cmp};
+    ghost use Rattle.sq_zset.specs.GroupLaws.{rows_are_abelian};
+    ghost use Rattle.sq_zset.specs.Range.{first_outside as first_weight_outside};
+
+    ghost addition = { z_sets row_cmp };
+
+    ghost first_outside = { λ z. first_weight_outside z };
+
+    fn zero(alloc: Global) -> ZSet {
+        ZSet::empty(alloc)
+    }
+
+    fn is_zero(&self) -> bool {
+        self.entries.is_empty()
+    }
+
+    fn plus(&self, alloc: Global, other: &ZSet) -> Result<ZSet, ZFault> {
+        self.plus(alloc, other)
+    }
+
+    fn negate(&self, alloc: Global) -> Result<ZSet, NoMemory> {
+        self.negate(alloc)
+    }
+
+    fn clone_group(&self, alloc: Global) -> Result<ZSet, NoMemory>
+        ensures ok { IfOk result (λ copy. copy ≡ self.now) }
+        ensures in_range { IfOk result IsInRange }
+    {
+        let entries = copy_entries(alloc, Sign::Plus, &self.entries)?;
+        Ok(ZSet { entries })
+    }
+
+    ghost laws = { rows_are_abelian };
 }

@@ -9,9 +9,9 @@ use Rattle.sq_zset.proofs.zset.ZSet.minus.Goals as goal
 pub returns-in_err-entries-clause-outside : goal.returns-in_err-entries-clause-outside
 returns-in_err-entries-clause-outside c sum e =
     let (fault, is, same) = err_from_is_err_and c.from_residual.result c.from_residual.ensures.1 in
-    let failed : c.difference_of.result ≡ Err (Weight sum) = cc (c.in_err-entries.was, is, same, e) in
+    let failed : c.merge_entries.result ≡ Err (Weight sum) = cc (c.in_err-entries.was, is, same, e) in
     ap first_outside_in (sym (difference_shown c.self.inside.entries.items c.other.inside.entries.items c.deref.result.now c.deref-2.result.now c.args.self.now c.args.other.now c.self.invariant c.self.view_is c.deref.ensures.value c.other.invariant c.other.view_is c.deref-2.ensures.value))
-    ∙ c.difference_of.ensures.outside sum failed
+    ∙ c.merge_entries.ensures.outside sum failed
 
 pub invariant_of-result : goal.invariant_of-result
 invariant_of-result c =

@@ -1,0 +1,8 @@
+use Rattle.std.proofs.Common.{ap, ◌∙◌}
+use Rattle.sq_value.specs.Order.{row_cmp}
+use Rattle.sq_algebra.specs.ZSet.{entries-zero}
+use Rattle.sq_zset.specs.Range.{first_outside, first_outside_in}
+use Rattle.sq_stream.proofs.delay.Delay.new.Goals as goal
+
+pub invariant_of-result : goal.invariant_of-result
+invariant_of-result c = ap first_outside c.empty.ensures ∙ ap first_outside_in (entries-zero row_cmp)
