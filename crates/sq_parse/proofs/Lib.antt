@@ -2,3 +2,4 @@ pub mod Chains
 pub mod Levels
 pub mod Places
 pub mod Verdict
+pub mod Operands

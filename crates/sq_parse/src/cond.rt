@@ -1,14 +1,19 @@
 //! Conditions.
-ghost use Rattle.std.specs.Prelude.{◌≡◌};
+ghost use Rattle.std.specs.Prelude.{◌≡◌, ◌<◌, ◌-◌, ◌^◌, is_some};
+ghost use Rattle.sq_token.specs.declared.token.TokenKind.TheVariants as token;
 ghost use Rattle.sq_ast.specs.Parser.{many};
 ghost use Rattle.sq_ast.specs.Spelling.{kinds};
 ghost use Rattle.sq_ast.specs.Reading as r;
 ghost use Rattle.sq_parse.specs.Answers.{Reads};
+ghost use Rattle.sq_parse.specs.Lookahead as ahead;
+ghost use Rattle.sq_parse.specs.Lookahead.{Tells};
 
 use crate::expr::sum;
 use crate::fault::Stop;
 use crate::list::{all_of, any_of};
-use crate::step::{Parsed, eat_word, expect_symbol, expect_word, is_symbol, next_token};
+use crate::step::{
+    Parsed, eat_symbol, eat_word, expect_symbol, expect_word, is_symbol, next_token,
+};
 use sq_ast::{CmpTree, CondTree, ExprTree};
 use sq_token::{Symbol, Token, TokenKind};
 use sqlite_items::{Boxed, Items};
@@ -38,6 +43,83 @@ fn comparison_of(kind: &TokenKind) -> Option<CmpTree>
         return Some(CmpTree::Ge);
     }
     None
+}
+
+/// Whether this is the symbol of a comparison.
+#[tactic(auto, unfolding(sq_ast::specs::Reading::comparison_of, sq_ast::specs::Words::same_symbol))]
+fn is_comparison(symbol: Symbol) -> bool
+    ensures { result ≡ is_some (r.comparison_of (token.Symbol symbol)) }
+{
+    match symbol {
+        Symbol::Equal
+        | Symbol::NotEqual
+        | Symbol::Less
+        | Symbol::LessEqual
+        | Symbol::Greater
+        | Symbol::GreaterEqual => true,
+        _ => false,
+    }
+}
+
+/// Whether this token stands behind the left operand of a test. No token of an expression does.
+#[tactic(auto, unfolding(crate::specs::Lookahead::is_test, sq_ast::specs::Reading::comparison_of, sq_ast::specs::Words::same_symbol))]
+fn is_test(kind: &TokenKind) -> bool
+    ensures { result ≡ ahead.is_test kind.now }
+{
+    match kind {
+        TokenKind::Symbol(symbol) => is_comparison(*symbol),
+        TokenKind::Word(word) => word.as_str() == "is",
+        TokenKind::Name(_) | TokenKind::Text(_) | TokenKind::Number(_) => false,
+    }
+}
+
+/// How many levels further inside the next token stands. `None` where this one closes the parenthesis.
+#[tactic(auto, unfolding(crate::specs::Lookahead::depth_behind))]
+fn depth_behind(depth: usize, kind: &TokenKind) -> Option<usize>
+    requires { depth < 2 ^ 64 - 1 }
+    ensures { result ≡ ahead.depth_behind depth kind.now }
+{
+    if is_symbol(kind, Symbol::LeftParen) {
+        return Some(depth + 1);
+    }
+    if is_symbol(kind, Symbol::RightParen) {
+        return depth.checked_sub(1);
+    }
+    Some(depth)
+}
+
+/// Whether a test stands before the parenthesis closes that opened in front of these tokens.
+fn holds_test(tokens: &[Token]) -> bool
+    ensures { result ≡ ahead.holds_test 0 (kinds tokens.now) }
+{
+    let mut depth = 0;
+    let mut rest = tokens;
+    'tokens: loop {
+        let Some((kind, behind)) = next_token(rest) else {
+            return false;
+        };
+        if is_test(kind) {
+            return true;
+        }
+        let Some(next) = depth_behind(depth, kind) else {
+            return false;
+        };
+        depth = next;
+        rest = behind;
+    }
+}
+
+/// Whether a parenthesis that opens a condition comes next: one that holds a test. This is found out by looking
+/// ahead, so that no operand is read in vain. A token is looked at once for each condition's parenthesis that it
+/// stands in, up to the first test, and so at most 64 times.
+#[tactic(auto, using(crate::proofs::Operands::opens, crate::proofs::Operands::opens_nothing))]
+fn opens_condition(tokens: &[Token]) -> bool
+    ensures { Tells result (kinds tokens.now) }
+{
+    match eat_symbol(tokens, Symbol::LeftParen) {
+        None => false,
+        Some(inside) => holds_test(inside),
+    }
 }
 
 /// `IS [ NOT ] NULL` behind an operand.
@@ -91,17 +173,17 @@ fn nested_cond<'a>(alloc: Global, depth: usize, tokens: &'a [Token]) -> Parsed<'
 
 /// `expr compare expr | expr IS [ NOT ] NULL | "(" cond ")"`
 ///
-/// A parenthesis may open an operand or a condition: where no operand is read, a condition is.
+/// A parenthesis may open an operand or a condition, and what it holds tells which.
 #[cycle(cond)]
 #[tactic(auto, unfolding(sq_ast::specs::Reading::test))]
 fn test<'a>(alloc: Global, depth: usize, tokens: &'a [Token]) -> Parsed<'a, CondTree>
     ensures { Reads result (r.test (r.level depth) (kinds tokens.now)) }
 {
-    match sum(alloc, depth, tokens) {
-        Ok((left, rest)) => after_operand(alloc, depth, left, rest),
-        Err(Stop::NotGrammar) => nested_cond(alloc, depth, tokens),
-        Err(Stop::Memory) => Err(Stop::Memory),
+    if opens_condition(tokens) {
+        return nested_cond(alloc, depth, tokens);
     }
+    let (left, rest) = sum(alloc, depth, tokens)?;
+    after_operand(alloc, depth, left, rest)
 }
 
 /// `[ NOT ] test`

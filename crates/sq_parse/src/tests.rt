@@ -63,6 +63,14 @@ fn texts_have_these_statements(rt: HostRuntime) -> Result<(), Fail> {
             "[1 view]",
         ),
         (
+            "CREATE VIEW v AS SELECT a FROM t WHERE ((a) + 1 > 2 AND NOT ((b) IS NULL))",
+            "[1 view]",
+        ),
+        (
+            "CREATE VIEW v AS SELECT a FROM t WHERE ((a > 1) + 2)",
+            "NotGrammar { number: 1 }",
+        ),
+        (
             "CREATE TABLE t (a INT); CREATE VIEW v AS SELECT t.a FROM t RIGHT JOIN t y ON t.a = y.a",
             "NotGrammar { number: 2 }",
         ),
