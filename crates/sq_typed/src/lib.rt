@@ -1,0 +1,17 @@
+//! Queries in which names are replaced by numbers, what they mean over lists of rows, and the faults of statements.
+#![tactic(auto)]
+
+mod check_kind;
+pub mod examples;
+pub mod fault_examples;
+pub mod fault_laws;
+pub mod fit_laws;
+pub mod laws;
+mod program;
+mod query;
+mod update;
+
+pub use check_kind::CheckKind;
+pub use program::Program;
+pub use query::{Block, BlockCall, FromItem, FromJoin, Grouping, Origin, Query, SetStep};
+pub use update::Update;
