@@ -1,0 +1,10 @@
+//! Linear operators on Z-sets (DBSP, PVLDB 16(7), 2023): each row is replaced by its images.
+#![tactic(auto)]
+
+mod apply;
+mod fault;
+#[cfg(test)]
+mod tests;
+
+pub use apply::apply_linear;
+pub use fault::LinearFault;

@@ -1,0 +1,7 @@
+use Rattle.std.proofs.Common.{◌≡◌, ◌++◌, replicate}
+use Rattle.sq_value.specs.declared.value.Value.TheVariants.{Null}
+use Rattle.sq_ops.proofs.linear.padded_row.Given as goal
+
+-- so many NULLs stand behind the row
+abbrev pub invariant-loop : goal.invariant-loop
+invariant-loop l = l.values.items ≡ l.row ++ replicate l.counter Null
