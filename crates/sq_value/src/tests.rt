@@ -43,6 +43,8 @@ fn copies_are_equal(rt: HostRuntime) -> Result<(), Fail> {
     assert!(rt; *same.at(1) == Value::Int(-7));
     assert!(rt; *same.at(2) == Value::Text(copy));
     assert!(rt; row == same);
+    let last = row.at(2).clone_value(alloc)?;
+    assert!(rt; last == *same.at(2));
     assert_eq!(rt; hash_of(&row), hash_of(&same));
     Ok(())
 }

@@ -27,7 +27,7 @@ pub enum Value {
 
 impl Value {
     /// A value of its own that is the same, or `NoMemory` where memory runs out.
-    pub(crate) fn clone_value(&self, alloc: Global) -> Result<Value, NoMemory>
+    pub fn clone_value(&self, alloc: Global) -> Result<Value, NoMemory>
         ensures equal { IfOk result (λ copy. copy ≡ self.now) }
     {
         Ok(match self {
