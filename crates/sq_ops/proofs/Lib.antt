@@ -3,3 +3,12 @@ pub mod Ranges
 pub mod Extending
 pub mod Computing
 pub mod Fitting
+pub mod Joining
+pub mod Indexing
+pub mod Counting
+pub mod Measuring
+pub mod Folding
+pub mod Calling
+pub mod Grouping
+pub mod Indexed
+pub mod ListTies

@@ -3,3 +3,11 @@ pub mod Faults
 pub mod Fits
 pub mod Rows
 pub mod Extensions
+pub mod Joins
+pub mod JoinLaws
+pub mod Indexes
+pub mod Wholes
+pub mod Aggregates
+pub mod WholeLaws
+pub mod Measures
+pub mod Lists

@@ -3,12 +3,26 @@
 //! One trait for each way in which an operator extends from rows to Z-sets. A linear operator gives images of a row.
 #![tactic(auto)]
 
+mod aggregate;
+mod bilinear;
+mod columns;
 mod copy;
+mod count;
+mod extreme;
 mod fault;
+mod index;
 pub mod laws;
 mod linear;
+pub mod list_laws;
+mod measure;
 #[cfg(test)]
 mod tests;
+mod whole;
 
+pub use aggregate::{AggSpec, Call};
+pub use bilinear::{Bilinear, Pairing};
+pub use count::count_rows;
 pub use fault::OpFault;
+pub use index::Index;
 pub use linear::{Keep, Linear, Pad, Project};
+pub use whole::{Distinct, Whole, WholeFault};

@@ -1,0 +1,57 @@
+//! What joins, distinct and aggregates do to the Z-sets of lists, each as the contract of a function that does nothing.
+ghost use Rattle.std.specs.Prelude.{◌≡◌, false, true, ℕ, List, [], ◌∷◌};
+ghost use Rattle.std.specs.List.{flat_map};
+ghost use Rattle.sq_algebra.specs.Keyed.{groups_by};
+ghost use Rattle.sq_algebra.specs.Listed.{first_of_each};
+ghost use Rattle.sq_algebra.specs.Operators.{pairs_where};
+ghost use Rattle.sq_algebra.specs.ZSet.{ZSet, of_list, zero};
+ghost use Rattle.sq_expr.specs.declared.expr.Func.{Func as Function};
+ghost use Rattle.sq_ops.specs.Aggregates.{call_value, group_of};
+ghost use Rattle.sq_ops.specs.Joins.{IsAdditiveInEach, joined};
+ghost use Rattle.sq_ops.specs.Lists.{group_of_list, list_value, row_of_list};
+ghost use Rattle.sq_ops.specs.Wholes.{IsNothingForNone, sum_of_parts};
+ghost use Rattle.sq_ops.specs.declared.aggregate.AggSpec.{AggSpec as Aggregating};
+ghost use Rattle.sq_ops.specs.declared.whole.Distinct.{Distinct as Distinguishing};
+ghost use Rattle.sq_value.specs.declared.value.Value.{Value as Datum};
+ghost use Rattle.sq_value.specs.Order.{row_cmp};
+ghost use Rattle.sq_algebra.specs.Groups.{z_sets};
+
+use crate::{AggSpec, Bilinear, Distinct, Index, Pairing, Whole, WholeFault};
+
+/// A join of the Z-sets of two lists is the Z-set of what nested loops over the lists give, and it is additive in each
+/// place.
+pub fn joins_are_nested_loops<B: Bilinear>()
+    ensures lists { (op : B) (rows others : List (List Datum)) → joined (B.left_keys op) (B.right_keys op) (B.pairs op) (of_list row_cmp rows) (of_list row_cmp others) ≡ of_list row_cmp (flat_map (λ row. flat_map (pairs_where row_cmp (B.left_keys op) (B.right_keys op) (B.pairs op) row) others) rows) }
+    ensures additive { (op : B) → IsAdditiveInEach (z_sets row_cmp) (z_sets row_cmp) (z_sets row_cmp) (joined (B.left_keys op) (B.right_keys op) (B.pairs op)) }
+{}
+
+/// An operator that works key by key is the sum of its parts, and a part over no rows is empty, but for a standing one.
+pub fn parts_add_up<W: Whole>()
+    ensures parts { (op : W) (z : ZSet (List Datum) row_cmp) → W.answers op z ≡ sum_of_parts (W.parts op) (W.stands op) (W.keys op) z }
+    ensures none { (op : W) → IsNothingForNone (W.parts op) (W.stands op) }
+{}
+
+/// Distinct of the Z-set of a list is the Z-set of the list without repeats.
+pub fn distinct_has_no_repeats()
+    ensures { (op : Distinguishing) (rows : List (List Datum)) → ⟦<Distinct as Whole>⟧.answers op (of_list row_cmp rows) ≡ of_list row_cmp (first_of_each row_cmp rows) }
+{}
+
+/// An aggregate of the Z-set of a list is the Z-set of the rows of its groups, in the order of their first appearance; a
+/// global one has one row. The value of a call over the rows of a group is that over the list of these rows, in which
+/// MIN and MAX go over each row once.
+pub fn aggregates_of_lists()
+    ensures groups { (spec : Aggregating) (rows : List (List Datum)) → spec.global ≡ false → ⟦<AggSpec as Whole>⟧.answers spec (of_list row_cmp rows) ≡ of_list row_cmp (groups_by row_cmp (group_of spec) (group_of_list spec.calls.items) rows) }
+    ensures global { (spec : Aggregating) (rows : List (List Datum)) → spec.global ≡ true → ⟦<AggSpec as Whole>⟧.answers spec (of_list row_cmp rows) ≡ of_list row_cmp (row_of_list spec.calls.items [] rows ∷ []) }
+    ensures values { (f : Function) (column : ℕ) (rows : List (List Datum)) → call_value f column (of_list row_cmp rows) ≡ list_value f column rows }
+{}
+
+fn is_send_and_sync<T: Send + Sync>() {}
+
+// Each type of data may be handed to another thread, and be shared.
+fn data_crosses_threads() {
+    is_send_and_sync::<Pairing>();
+    is_send_and_sync::<Distinct>();
+    is_send_and_sync::<AggSpec>();
+    is_send_and_sync::<WholeFault>();
+    is_send_and_sync::<Index>();
+}
