@@ -1,0 +1,8 @@
+use Rattle.std.proofs.Common.{◌≡◌, length, map, take}
+use Rattle.std.specs.List.{flat_map}
+use Rattle.sq_typed.specs.Faults.{names}
+use Rattle.sq_check.proofs.columns.has_same_names.Given as goal
+
+-- the names so far
+abbrev pub invariant-loop-column : goal.invariant-loop-column
+invariant-loop-column l = map (λ name. name.now) l.names.items ≡ names (take l.column-index l.columns)

@@ -1,0 +1,8 @@
+use Rattle.std.proofs.Common.{◌≡◌, take}
+use Rattle.std.specs.List.{list_any}
+use Rattle.sq_check.specs.TypesLeaves.{item_nests}
+use Rattle.sq_check.proofs.leaves.items_nest.Given as goal
+
+-- whether a call nests in the items so far
+abbrev pub invariant-loop-item : goal.invariant-loop-item
+invariant-loop-item l = l.found ≡ list_any item_nests (take l.item-index l.items)

@@ -1,0 +1,31 @@
+use Rattle.std.proofs.Common.{◌≡◌, sym, ap, ◌∙◌, arith, rules}
+use Rattle.sq_check.proofs.QueriesProgram.{nothing_yet, counted, one_more, all_done, is_checked, passed, refused_here}
+use Rattle.sq_check.specs.declared.program.CheckFault.TheVariants.{Fault}
+use Rattle.sq_check.proofs.program.check.Goals as goal
+
+pub loop-before-init : goal.loop-before-init
+loop-before-init c = nothing_yet c.args.statements.now (record { catalog = c.new-catalog.result; queries = c.new-queries.result }) (λ i. record { catalog = c.new-catalog.ensures i; queries = c.new-queries.ensures i })
+
+pub add_statement-requires : goal.add_statement-requires
+add_statement-requires c = counted c.args.statements.now c.loop-before.before (record { catalog = c.loop-before.catalog; queries = c.loop-before.queries }) c.loop-before.invariant
+
+pub returns-in_err-add_statement : goal.returns-in_err-add_statement
+returns-in_err-add_statement c =
+    let here = passed c.args.statements.now _ _ c.from_residual.result c.in_err-add_statement.field-0.0 _ Fault c.from_residual.ensures.1 (λ y same. same)
+    (λ number k is.
+    let told = c.in_err-add_statement.ensures.fault number k is in
+    refused_here c.args.statements.now c.loop-before.before c.index-statements-before.result (omega arith) c.index-statements-before.is (record { catalog = c.loop-before.catalog; queries = c.loop-before.queries }) c.loop-before.invariant number k told.0 told.1) in
+    record { accepted = here.0; typed = here.1; refused = here.2 }
+
+pub loop-before-preserved : goal.loop-before-preserved
+loop-before-preserved c =
+    one_more c.args.statements.now c.loop-before.before c.index-statements-before.result (omega arith) c.index-statements-before.is (record { catalog = c.loop-before.catalog; queries = c.loop-before.queries }) c.loop-before.invariant (record { catalog = c.add_statement.new.catalog; queries = c.add_statement.new.queries })
+    c.in_ok-add_statement.ensures.none c.in_ok-add_statement.ensures.added
+
+pub of-requires : goal.of-requires
+of-requires c = is_checked c.args.statements.now c.loop-before.before (record { catalog = c.loop-before.catalog; queries = c.loop-before.queries }) c.requires.spelled (omega arith) c.loop-before.invariant
+
+pub returns : goal.returns
+returns c =
+    let done = all_done c.args.statements.now c.loop-before.before (record { catalog = c.loop-before.catalog; queries = c.loop-before.queries }) (omega arith) c.loop-before.invariant in
+    record { accepted = done.0; typed = c.of.ensures ∙ done.1; refused = λ number k is. absurd (cc is) }

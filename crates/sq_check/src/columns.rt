@@ -1,0 +1,212 @@
+ghost use Rattle.std.specs.Prelude.{◌≡◌, ◌++◌, ◌∷◌, [], if◌then◌else◌, IfOk, MatchOption, OnOk, false, length, map, nat_lt, take, true};
+ghost use Rattle.std.specs.List.{flat_map};
+ghost use Rattle.sq_typed.specs.Faults.{has_long_list, names};
+ghost use Rattle.sq_typed.specs.Scopes.{repeats};
+ghost use Rattle.sq_typed.specs.Selected.{block_columns, chosen, starred, written_out};
+ghost use Rattle.sq_check.specs.Scoped.{scoped_by};
+ghost use Rattle.sq_check.specs.TypesColumns.{picked_count, up_to};
+ghost use Rattle.sq_check.specs.TypesFrames.{frame_column};
+ghost use Rattle.sq_check.specs.TypesItems.{chosen_of, picks};
+
+use crate::chosen::{ListItem, chosen, picks, sum};
+use crate::frame::Frame;
+use crate::listed::push_columns;
+use crate::repeating::repeats;
+use crate::{Scope, Source};
+use sq_ast::{BlockTree, ItemTree};
+use sq_catalog::Column;
+use sq_value::NoMemory;
+use sqlite_items::Items;
+use std::alloc::Global;
+
+/// The number of items of the block, with stars written out. Takes no memory; `NoMemory` only where 64 bits do not hold it.
+pub fn chosen_count(scope: &Scope, block: &BlockTree) -> Result<u64, NoMemory>
+    ensures { IfOk result (λ count. count ≡ length (chosen (scoped_by scope.now block.now))) }
+{
+    let count = items_count(scope, block.items.as_slice())?;
+    Ok(count as u64)
+}
+
+fn items_count(scope: &Scope, items: &[ItemTree]) -> Result<usize, NoMemory>
+    ensures { IfOk result (λ count. count ≡ length (flat_map (written_out scope.now) items.now)) }
+{
+    let mut count = 0;
+    for item in items {
+        let more = item_count(scope, item)?;
+        count = sum(count, more)?;
+    }
+    Ok(count)
+}
+
+fn item_count(scope: &Scope, item: &ItemTree) -> Result<usize, NoMemory>
+    ensures { IfOk result (λ count. count ≡ length (written_out scope.now item.now)) }
+{
+    match item {
+        ItemTree::Expr { .. } => Ok(1),
+        ItemTree::Star | ItemTree::StarOf(_) => star_count(scope, item),
+    }
+}
+
+// The number of columns that the item stands for where it is a star.
+fn star_count(scope: &Scope, item: &ItemTree) -> Result<usize, NoMemory>
+    ensures { IfOk result (λ count. count ≡ length (starred (picks item.now) 0 scope.now)) }
+{
+    let mut count = 0;
+    for source in scope.sources() {
+        let more = picked_count(item, source);
+        count = sum(count, more)?;
+    }
+    Ok(count)
+}
+
+fn picked_count(item: &ItemTree, source: &Source) -> usize
+    ensures { result ≡ picked_count item.now source.now }
+{
+    if picks(item, source.name()) {
+        source.columns().len()
+    } else {
+        0
+    }
+}
+
+/// Whether the block has more than 64 items, with stars written out, or more than 16 sources. Takes no memory; `NoMemory` only
+/// where 64 bits do not hold the number of items.
+pub fn has_long_list(scope: &Scope, block: &BlockTree) -> Result<bool, NoMemory>
+    ensures { IfOk result (λ long. long ≡ has_long_list (scoped_by scope.now block.now)) }
+{
+    let count = chosen_count(scope, block)?;
+    let has_many_items = count > 64;
+    let has_many_sources = scope.len() > 16;
+    Ok(has_many_items | has_many_sources)
+}
+
+/// The first columns that the block gives, up to so many, or `NoMemory` where memory runs out.
+pub fn first_columns(
+    alloc: Global,
+    scope: &Scope,
+    block: &BlockTree,
+    limit: usize,
+) -> Result<Items<Column>, NoMemory>
+    ensures { IfOk result (λ columns. columns ≡ take limit (block_columns (scoped_by scope.now block.now))) }
+{
+    let frame = Frame::of(alloc, scope, block)?;
+    let columns = columns_up_to(alloc, &frame, scope, block.items.as_slice(), limit)?;
+    Ok(columns)
+}
+
+fn columns_up_to(
+    alloc: Global,
+    frame: &Frame,
+    scope: &Scope,
+    items: &[ItemTree],
+    limit: usize,
+) -> Result<Items<Column>, NoMemory>
+    ensures { IfOk result (λ columns. columns ≡ take limit (map (frame_column frame.now) (flat_map (written_out scope.now) items.now))) }
+{
+    let mut columns = Items::new(alloc);
+    for item in items {
+        add_item(alloc, frame, scope, item, limit, &mut columns)?;
+    }
+    Ok(columns)
+}
+
+// Puts the columns of the item behind the others, up to so many in all.
+fn add_item(
+    alloc: Global,
+    frame: &Frame,
+    scope: &Scope,
+    item: &ItemTree,
+    limit: usize,
+    columns: &mut Items<Column>,
+) -> Result<(), NoMemory>
+    ensures { OnOk result (columns.new ≡ up_to limit columns.old (map (frame_column frame.now) (written_out scope.now item.now))) }
+{
+    if columns.len() >= limit {
+        return Ok(());
+    }
+    let items = chosen(alloc, scope, item)?;
+    add_listed(alloc, frame, items.as_slice(), limit, columns)
+}
+
+fn add_listed(
+    alloc: Global,
+    frame: &Frame,
+    items: &[ListItem],
+    limit: usize,
+    columns: &mut Items<Column>,
+) -> Result<(), NoMemory>
+    ensures { OnOk result (columns.new ≡ up_to limit columns.old (map (frame_column frame.now) (map chosen_of items.now))) }
+{
+    for item in items {
+        add_column(alloc, frame, item, limit, columns)?;
+    }
+    Ok(())
+}
+
+fn add_column(
+    alloc: Global,
+    frame: &Frame,
+    item: &ListItem,
+    limit: usize,
+    columns: &mut Items<Column>,
+) -> Result<(), NoMemory>
+    ensures { OnOk result (columns.new ≡ (if nat_lt (length columns.old) limit then columns.old ++ frame_column frame.now (chosen_of item.now) ∷ [] else columns.old)) }
+{
+    if columns.len() < limit {
+        let column = frame.item_column(alloc, item)?;
+        columns.push(column)?;
+    }
+    Ok(())
+}
+
+/// All columns that the block gives, or None where two of them have the same name. `NoMemory` where memory runs out.
+///
+/// It stops soon after the first name that stands twice, so that the list is no longer than twice the front without such a name
+/// and the columns of one star.
+pub fn distinct_columns(
+    alloc: Global,
+    scope: &Scope,
+    block: &BlockTree,
+) -> Result<Option<Items<Column>>, NoMemory>
+    ensures { IfOk result (λ found. MatchOption found (repeats (names (block_columns (scoped_by scope.now block.now))) ≡ true) (λ columns. (columns ≡ block_columns (scoped_by scope.now block.now)) × (repeats (names columns) ≡ false))) }
+{
+    let frame = Frame::of(alloc, scope, block)?;
+    let found = distinct_listed(alloc, &frame, scope, block.items.as_slice())?;
+    Ok(found)
+}
+
+fn distinct_listed(
+    alloc: Global,
+    frame: &Frame,
+    scope: &Scope,
+    items: &[ItemTree],
+) -> Result<Option<Items<Column>>, NoMemory>
+    ensures { IfOk result (λ found. MatchOption found (repeats (names (map (frame_column frame.now) (flat_map (written_out scope.now) items.now))) ≡ true) (λ columns. (columns ≡ map (frame_column frame.now) (flat_map (written_out scope.now) items.now)) × (repeats (names columns) ≡ false))) }
+{
+    let mut columns = Items::new(alloc);
+    let mut checked = 0;
+    for item in items {
+        push_columns(alloc, frame, scope, item, &mut columns)?;
+        if columns.len() / 2 >= checked {
+            checked = columns.len();
+            if has_same_names(alloc, columns.as_slice())? {
+                return Ok(None);
+            }
+        }
+    }
+    if has_same_names(alloc, columns.as_slice())? {
+        return Ok(None);
+    }
+    Ok(Some(columns))
+}
+
+// Whether two of the columns have the same name.
+fn has_same_names(alloc: Global, columns: &[Column]) -> Result<bool, NoMemory>
+    ensures { IfOk result (λ found. found ≡ repeats (names columns.now)) }
+{
+    let mut names = Vec::new(alloc);
+    for column in columns {
+        names.push(column.name.as_str())?;
+    }
+    repeats(alloc, names.as_slice())
+}
