@@ -1,5 +1,5 @@
 -- The judgement of a program, from its tokens up to its input.
-use Rattle.std.proofs.Common.{◌≡◌, ◌↔◌, ℕ, List, Bool, true, false, sym, subst, ◌≢◌, ◌<◌, ◌≤◌, length}
+use Rattle.std.proofs.Common.{◌≡◌, ◌↔◌, ℕ, List, Bool, true, false, refl, subst, ◌<◌, ◌≤◌, length}
 use Rattle.std.specs.Prelude.{IsTrue}
 use Rattle.std.specs.Str.{IsUtf8}
 use Rattle.sq_token.specs.declared.token.Token.{Token}
@@ -14,9 +14,14 @@ use Rattle.sq_top.specs.declared.judge.JudgeStop.{JudgeStop}
 use Rattle.sq_top.specs.declared.judge.JudgeStop.TheVariants.{Fault, Memory}
 use Rattle.sq_ast.specs.declared.statement.Statement.{Statement}
 use Rattle.sq_ast.specs.Spelling.{Spells}
-use Rattle.sq_top.specs.declared.program_fault.ProgramFault.TheVariants.{NotBuilt, TextTooLong}
+use Rattle.sq_top.specs.declared.program_fault.ProgramFault.TheVariants.{TextTooLong}
+use Rattle.std.specs.Prelude.{Some}
+use Rattle.sq_check.specs.declared.program.CheckFault.{CheckFault}
+use Rattle.sq_check.specs.declared.program.CheckFault.TheVariants as checking
+use Rattle.sq_typed.specs.Faults.{refused}
+use Rattle.sq_typed.specs.declared.check_kind.CheckKind.{CheckKind}
 use Rattle.sq_top.specs.Lines.{lines_of, has_end_line, text_before_end}
-use Rattle.sq_top.specs.Programs.{built, longest_text, IsText, TokensFault, TextFault, HasFault, TokensStop, TextStops, Stops, lex_stop, parse_stop}
+use Rattle.sq_top.specs.Programs.{longest_text, IsText, StatementsFault, TokensFault, TextFault, HasFault, StatementsStop, TokensStop, TextStops, Stops, check_stop, lex_stop, parse_stop}
 
 pub parse_stops : (tokens : List Token) (fault : ParseFault) → parse.HasCause tokens fault → TokensStop tokens (parse_stop fault)
 parse_stops tokens (parsing.NotGrammar n) cause = TokensFault.not_grammar cause
@@ -45,9 +50,14 @@ untrue b same e p = let t : b ≡ true = same.1 p in cc
 pub istrue : {P : Type 0} (b : Bool) → IsTrue b ↔ P → b ≡ true → P
 istrue b same e = same.0 e
 
-pub not_built : (tokens : List Token) (statements : List Statement) (stop : JudgeStop) → Spells tokens statements
-    → (stop ≡ Fault NotBuilt) × (statements ≢ built) → TokensStop tokens stop
-not_built tokens statements stop spelled other = subst (TokensStop tokens) (sym other.0) (TokensFault.not_built statements spelled other.1)
+pub statements_stop : (tokens : List Token) (statements : List Statement) (stop : JudgeStop) → Spells tokens statements → StatementsStop statements stop → TokensStop tokens stop
+statements_stop tokens statements (Fault fault) spelled wrong = TokensFault.in_statements statements spelled wrong
+statements_stop tokens statements Memory spelled wrong = tt
+
+-- a refusal by the checker
+pub check_stops : (statements : List Statement) (fault : CheckFault) → ((n : ℕ) (kind : CheckKind) → fault ≡ checking.Fault n kind → refused statements ≡ Some (n, kind)) → StatementsStop statements (check_stop fault)
+check_stops statements (checking.Fault n kind) cause = StatementsFault.check (cause n kind refl)
+check_stops statements checking.Memory cause = tt
 
 pub text_too_long : (input text : List ℕ) → has_end_line (lines_of input) ≡ true → text ≡ text_before_end (lines_of input) → longest_text < length text
     → HasFault input TextTooLong

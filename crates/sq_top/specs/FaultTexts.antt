@@ -3,7 +3,9 @@ use Rattle.std.specs.Prelude.{ℕ, List, [], ◌++◌, codes, decimal}
 use Rattle.sq_token.specs.declared.fault.LexFault.TheVariants as lex
 use Rattle.sq_parse.specs.declared.fault.ParseFault.TheVariants as parse
 use Rattle.sq_top.specs.declared.program_fault.ProgramFault.{ProgramFault}
-use Rattle.sq_top.specs.declared.program_fault.ProgramFault.TheVariants.{TextTooLong, NoEnd, NotUtf8, Lex, Parse, NotBuilt}
+use Rattle.sq_top.specs.declared.program_fault.ProgramFault.TheVariants.{TextTooLong, NoEnd, NotUtf8, Lex, Parse, Check, NotBuilt}
+use Rattle.sq_typed.specs.declared.check_kind.CheckKind.{CheckKind}
+use Rattle.sq_typed.specs.declared.check_kind.CheckKind.TheVariants as check
 
 abbrev pub plain_fault : List ℕ → List ℕ
 plain_fault cause = codes "{\"program\":\"" ++ (cause ++ codes "\"}\n")
@@ -15,6 +17,21 @@ placed_fault cause at = codes "{\"program\":\"" ++ (cause ++ (codes "\",\"at\":"
 -- a fault of a statement
 abbrev pub statement_fault : List ℕ → ℕ → List ℕ
 statement_fault cause number = codes "{\"program\":\"" ++ (cause ++ (codes "\",\"statement\":" ++ (decimal number ++ codes "}\n")))
+
+-- what a kind of fault of a statement is called
+abbrev pub kind_text : CheckKind → List ℕ
+kind_text check.DuplicateName = codes "duplicate name"
+kind_text check.UnknownRelation = codes "unknown relation"
+kind_text check.UnnamedColumn = codes "unnamed column"
+kind_text check.DuplicateColumn = codes "duplicate column"
+kind_text check.UnknownColumn = codes "unknown column"
+kind_text check.AmbiguousColumn = codes "ambiguous column"
+kind_text check.NestedAggregate = codes "nested aggregate"
+kind_text check.NotGrouped = codes "not grouped"
+kind_text check.ColumnCount = codes "column count"
+kind_text check.TypeMismatch = codes "type mismatch"
+kind_text check.TooWide = codes "too wide"
+kind_text check.Limit = codes "limit"
 
 -- want of memory is no fault of a program, and has no line here
 abbrev pub fault_text : ProgramFault → List ℕ
@@ -30,4 +47,5 @@ fault_text (Lex lex.Memory) = []
 fault_text (Parse (parse.NotGrammar number)) = statement_fault (codes "not grammar") number
 fault_text (Parse (parse.TooDeep number)) = statement_fault (codes "too deep") number
 fault_text (Parse parse.Memory) = []
+fault_text (Check number kind) = statement_fault (kind_text kind) number
 fault_text NotBuilt = plain_fault (codes "not built")

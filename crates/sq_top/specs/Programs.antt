@@ -1,5 +1,5 @@
 -- The program text of an input: its faults, and the one program that is built.
-use Rattle.std.specs.Prelude.{◌≡◌, ◌≢◌, ℕ, ◌<◌, ◌≤◌, true, false, List, [], ◌∷◌, length, None, codes, ⊤}
+use Rattle.std.specs.Prelude.{◌≡◌, ◌≢◌, ℕ, ◌<◌, ◌≤◌, true, false, List, [], ◌∷◌, length, Some, None, codes, ⊤}
 use Rattle.std.specs.Str.{IsUtf8}
 use Rattle.sq_token.specs.declared.token.Token.{Token}
 use Rattle.sq_token.specs.declared.fault.LexFault.{LexFault}
@@ -20,6 +20,10 @@ use Rattle.sq_ast.specs.declared.query.SourceTree.TheVariants as source
 use Rattle.sq_ast.specs.Trees.{joined}
 use Rattle.sq_ast.specs.Spelling.{Spells}
 use Rattle.sq_ast.specs.Refusal as refusal
+use Rattle.sq_check.specs.declared.program.CheckFault.{CheckFault}
+use Rattle.sq_check.specs.declared.program.CheckFault.TheVariants as checking
+use Rattle.sq_typed.specs.Faults.{refused}
+use Rattle.sq_typed.specs.declared.check_kind.CheckKind.{CheckKind}
 use Rattle.sq_parse.specs.declared.fault.ParseFault.{ParseFault}
 use Rattle.sq_parse.specs.declared.fault.ParseFault.TheVariants as parse
 use Rattle.sq_token.specs.declared.fault.LexFault.TheVariants as lexing
@@ -77,13 +81,18 @@ pub record IsBuilt (text : List ℕ) : Type 0 where
   pub lexed : Tokens text tokens
   pub spelled : Spells tokens built
 
+-- the first fault of statements that tokens spell
+pub data StatementsFault : List Statement → ProgramFault → Type 0 where
+  check : {statements : List Statement} {n : ℕ} {kind : CheckKind} → refused statements ≡ Some (n, kind) → StatementsFault statements (faults.Check n kind)
+  not_built : {statements : List Statement} → refused statements ≡ None → statements ≢ built → StatementsFault statements faults.NotBuilt
+
 -- the first fault of a text in UTF-8 with these tokens
 pub data TokensFault : List Token → ProgramFault → Type 0 where
   too_deep : {tokens : List Token} {n : ℕ} → refusal.Refuses tokens (refusal.TooDeep n) → TokensFault tokens (faults.Parse (parse.TooDeep n))
   not_grammar : {tokens : List Token} {n : ℕ} → refusal.Refuses tokens (refusal.NotGrammar n) → TokensFault tokens (faults.Parse (parse.NotGrammar n))
-  not_built : {tokens : List Token} (statements : List Statement) → Spells tokens statements → statements ≢ built → TokensFault tokens faults.NotBuilt
+  in_statements : {tokens : List Token} {fault : ProgramFault} (statements : List Statement) → Spells tokens statements → StatementsFault statements fault → TokensFault tokens fault
 
--- the first fault of a text: of its bytes, its tokens or its grammar, or that it is another program
+-- the first fault of a text: of its bytes, its tokens, its grammar or its statements, or that it is another program
 pub data TextFault : List ℕ → ProgramFault → Type 0 where
   not_utf8 : {text : List ℕ} → ¬ (IsUtf8 text) → TextFault text faults.NotUtf8
   lex : {text : List ℕ} {fault : LexFault} → IsUtf8 text → FirstFault text fault → TextFault text (faults.Lex fault)
@@ -107,6 +116,10 @@ abbrev pub TextStops : List ℕ → JudgeStop → Type 0
 TextStops text (Fault fault) = TextFault text fault
 TextStops text Memory = ⊤
 
+abbrev pub StatementsStop : List Statement → JudgeStop → Type 0
+StatementsStop statements (Fault fault) = StatementsFault statements fault
+StatementsStop statements Memory = ⊤
+
 abbrev pub TokensStop : List Token → JudgeStop → Type 0
 TokensStop tokens (Fault fault) = TokensFault tokens fault
 TokensStop tokens Memory = ⊤
@@ -115,7 +128,7 @@ abbrev pub Stops : List ℕ → JudgeStop → Type 0
 Stops input (Fault fault) = HasFault input fault
 Stops input Memory = ⊤
 
--- what a fault of the tokens, or of the grammar, is to a judgement
+-- what a fault of the tokens, of the grammar, or of the statements is to a judgement
 abbrev pub lex_stop : LexFault → JudgeStop
 lex_stop lexing.Memory = Memory
 lex_stop fault = Fault (faults.Lex fault)
@@ -123,3 +136,7 @@ lex_stop fault = Fault (faults.Lex fault)
 abbrev pub parse_stop : ParseFault → JudgeStop
 parse_stop parse.Memory = Memory
 parse_stop fault = Fault (faults.Parse fault)
+
+abbrev pub check_stop : CheckFault → JudgeStop
+check_stop (checking.Fault n kind) = Fault (faults.Check n kind)
+check_stop checking.Memory = Memory

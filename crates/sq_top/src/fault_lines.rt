@@ -2,13 +2,14 @@
 ghost use Rattle.std.specs.Prelude.{◌≡◌, ◌++◌, OnOk, codes, decimal};
 ghost use Rattle.std.specs.Io.KnownBytes.{Appends};
 ghost use Rattle.sq_base.specs.Causes.{Rose, HasCause};
-ghost use Rattle.sq_top.specs.FaultTexts.{fault_text, plain_fault, placed_fault, statement_fault};
+ghost use Rattle.sq_top.specs.FaultTexts.{fault_text, kind_text, plain_fault, placed_fault, statement_fault};
 
 use crate::program_fault::ProgramFault;
 use itoa::Buffer;
 use sq_base::{Failed, Sink, put_all};
 use sq_parse::ParseFault;
 use sq_token::LexFault;
+use sq_typed::CheckKind;
 
 /// Writes the one line that tells of a fault. A fault of `err` is passed over.
 pub fn tell_fault<E: Sink>(fault: ProgramFault, err: &mut E)
@@ -29,6 +30,7 @@ fn put_fault<E: Sink>(fault: ProgramFault, err: &mut E) -> Result<(), Failed>
         ProgramFault::NotBuilt => put_plain(b"not built", err),
         ProgramFault::Lex(fault) => put_lex(fault, err),
         ProgramFault::Parse(fault) => put_parse(fault, err),
+        ProgramFault::Check { number, kind } => put_statement(kind_name(kind), number, err),
     }
 }
 
@@ -54,6 +56,26 @@ fn put_parse<E: Sink>(fault: ParseFault, err: &mut E) -> Result<(), Failed>
         ParseFault::NotGrammar { number } => put_statement(b"not grammar", number, err),
         ParseFault::TooDeep { number } => put_statement(b"too deep", number, err),
         ParseFault::Memory => Ok(()),
+    }
+}
+
+// What a kind of fault of a statement is called.
+fn kind_name(kind: CheckKind) -> &'static [u8]
+    ensures { result.now ≡ kind_text kind }
+{
+    match kind {
+        CheckKind::DuplicateName => b"duplicate name",
+        CheckKind::UnknownRelation => b"unknown relation",
+        CheckKind::UnnamedColumn => b"unnamed column",
+        CheckKind::DuplicateColumn => b"duplicate column",
+        CheckKind::UnknownColumn => b"unknown column",
+        CheckKind::AmbiguousColumn => b"ambiguous column",
+        CheckKind::NestedAggregate => b"nested aggregate",
+        CheckKind::NotGrouped => b"not grouped",
+        CheckKind::ColumnCount => b"column count",
+        CheckKind::TypeMismatch => b"type mismatch",
+        CheckKind::TooWide => b"too wide",
+        CheckKind::Limit => b"limit",
     }
 }
 

@@ -1,14 +1,17 @@
 //! The judgement of the program of an input.
 ghost use Rattle.std.specs.Str.{IsUtf8};
-ghost use Rattle.std.specs.Prelude.{◌≡◌, ◌≢◌, ◌↔◌, IsTrue, ◌<◌, ◌≤◌, ◌^◌, ◌-◌, length, true, false, IfOk, IfErr, OnOk};
+ghost use Rattle.std.specs.Prelude.{◌≡◌, ◌↔◌, IsTrue, ◌<◌, ◌≤◌, ◌^◌, ◌-◌, length, true, false, IfOk, IfErr, OnOk};
 ghost use Rattle.sq_ast.specs.Spelling.{Spells};
 ghost use Rattle.sq_top.specs.Lines.{lines_of, has_end_line, lines_after_end};
-ghost use Rattle.sq_top.specs.Programs.{HasFault, longest_text, built, IsBuilt, IsAccepted, TextStops, Stops, TokensStop};
+ghost use Rattle.std.specs.List.{AllByRecursion};
+ghost use Rattle.sq_typed.specs.Checked.{Spelling};
+ghost use Rattle.sq_top.specs.Programs.{HasFault, longest_text, built, IsBuilt, IsAccepted, TextStops, Stops, StatementsStop, TokensStop};
 
 use crate::built::is_built;
 use crate::lines::split_program;
 use crate::program_fault::ProgramFault;
 use sq_ast::Statement;
+use sq_check::{CheckFault, check};
 use sq_parse::{ParseFault, statements};
 use sq_token::{LexFault, Token, tokens};
 use std::alloc::Global;
@@ -45,6 +48,21 @@ impl From<ParseFault> for JudgeStop {
         match fault {
             ParseFault::Memory => JudgeStop::Memory,
             other => JudgeStop::Fault(ProgramFault::Parse(other)),
+        }
+    }
+}
+
+impl From<CheckFault> for JudgeStop {
+    ghost use Rattle.sq_top.specs.Programs.{check_stop};
+
+    ghost from_gives = { λ fault stop. stop ≡ check_stop fault };
+
+    fn from(fault: CheckFault) -> Self {
+        match fault {
+            CheckFault::Memory => JudgeStop::Memory,
+            CheckFault::Fault { number, kind } => {
+                JudgeStop::Fault(ProgramFault::Check { number, kind })
+            }
         }
     }
 }
@@ -98,13 +116,16 @@ fn judge_tokens(alloc: Global, tokens: &[Token]) -> Result<(), JudgeStop>
     ensures refused { IfErr result (TokensStop tokens.now) }
 {
     let statements = statements(alloc, tokens)?;
-    judge_statements(&statements)
+    judge_statements(alloc, &statements)
 }
 
-fn judge_statements(statements: &[Statement]) -> Result<(), JudgeStop>
+// The same for statements, each of which is spelled by some tokens.
+fn judge_statements(alloc: Global, statements: &[Statement]) -> Result<(), JudgeStop>
+    requires { AllByRecursion Spelling statements.now }
     ensures accepted { OnOk result (statements.now ≡ built) }
-    ensures refused { IfErr result (λ stop. (stop ≡ JudgeStop.Fault ProgramFault.NotBuilt) × (statements.now ≢ built)) }
+    ensures refused { IfErr result (StatementsStop statements.now) }
 {
+    check(alloc, statements)?;
     if is_built(statements) {
         Ok(())
     } else {

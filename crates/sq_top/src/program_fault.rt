@@ -1,6 +1,7 @@
 //! Why a program is refused.
 use sq_parse::ParseFault;
 use sq_token::LexFault;
+use sq_typed::CheckKind;
 
 /// The first fault of a program text. It holds no `Memory`.
 #[derive(Clone, Copy, Debug, PartialEq, Eq)]
@@ -15,6 +16,8 @@ pub enum ProgramFault {
     Lex(LexFault),
     /// The tokens of the text spell no statements.
     Parse(ParseFault),
+    /// A statement has a fault: the first that has one, with its number and the first kind of fault that it has.
+    Check { number: u32, kind: CheckKind },
     /// The statements are not those of the program that is built.
     NotBuilt,
 }

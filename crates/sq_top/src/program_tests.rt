@@ -210,3 +210,102 @@ fn the_program_may_be_laid_out_otherwise(rt: HostRuntime) -> Result<(), Fail> {
     )?;
     Ok(())
 }
+
+// Checks that a second statement is refused for this kind of fault.
+fn second_has<R: Threads + Sync + Abort>(
+    rt: &R,
+    alloc: Global,
+    statement: &str,
+    kind: &str,
+) -> Result<(), NoMemory> {
+    let mut told = Vec::from_slice(alloc, b"{\"program\":\"")?;
+    told.extend_from_slice(kind.as_bytes())?;
+    told.extend_from_slice(b"\",\"statement\":2}\n")?;
+    second_is_refused(rt, alloc, statement.as_bytes(), &told)
+}
+
+#[test]
+fn faults_of_statements_are_told_by_their_kind(rt: HostRuntime) -> Result<(), Fail> {
+    let alloc = rt.alloc();
+    for (statement, kind) in [
+        ("CREATE TABLE t (b INT)", "duplicate name"),
+        (
+            "CREATE VIEW v AS SELECT x.a FROM t x, t x",
+            "duplicate name",
+        ),
+        ("CREATE VIEW v AS SELECT a FROM q", "unknown relation"),
+        ("CREATE VIEW v AS SELECT a + 1 FROM t", "unnamed column"),
+        ("CREATE VIEW v AS SELECT a, a FROM t", "duplicate column"),
+        ("CREATE TABLE u (a INTEGER, A BIGINT)", "duplicate column"),
+        ("CREATE VIEW v AS SELECT b FROM t", "unknown column"),
+        (
+            "CREATE VIEW v AS SELECT a FROM t x, t y",
+            "ambiguous column",
+        ),
+        (
+            "CREATE VIEW v AS SELECT SUM(SUM(a)) AS c FROM t",
+            "nested aggregate",
+        ),
+        (
+            "CREATE VIEW v AS SELECT s, COUNT(*) AS c FROM t",
+            "not grouped",
+        ),
+        (
+            "CREATE VIEW v AS SELECT a FROM t UNION SELECT a, s FROM t",
+            "column count",
+        ),
+        (
+            "CREATE VIEW v AS SELECT a FROM t WHERE a = s",
+            "type mismatch",
+        ),
+        (
+            "CREATE VIEW v AS SELECT 9223372036854775808 * 9223372036854775808 * 2 AS c FROM t",
+            "too wide",
+        ),
+        (
+            "CREATE VIEW v AS SELECT x0.a FROM t x0, t x1, t x2, t x3, t x4, t x5, t x6, t x7, t x8, t x9, t x10, t x11, t x12, t x13, t x14, t x15, t x16",
+            "limit",
+        ),
+        (
+            "CREATE VIEW v AS SELECT t.a FROM t RIGHT JOIN t y ON t.a = y.a",
+            "not grammar",
+        ),
+        // A view can't name itself, ON does not see later items, and WHERE sees no aliases of select items.
+        ("CREATE VIEW v AS SELECT a FROM v", "unknown relation"),
+        (
+            "CREATE VIEW v AS SELECT x.a FROM t x JOIN t y ON z.a = y.a JOIN t z ON 1 = 1",
+            "unknown column",
+        ),
+        (
+            "CREATE VIEW v AS SELECT a AS b FROM t WHERE b = 1",
+            "unknown column",
+        ),
+        // What stands in a query in FROM counts too.
+        (
+            "CREATE VIEW v AS SELECT q.a FROM (SELECT x.a FROM t x, t x) q",
+            "duplicate name",
+        ),
+        ("CREATE VIEW v AS SELECT * FROM t GROUP BY a", "not grouped"),
+        (
+            "CREATE VIEW v AS SELECT SUM(s) AS c FROM t",
+            "type mismatch",
+        ),
+    ] {
+        second_has(&rt, alloc, statement, kind)?;
+    }
+    Ok(())
+}
+
+#[test]
+fn statements_without_faults_are_another_program(rt: HostRuntime) -> Result<(), Fail> {
+    let alloc = rt.alloc();
+    for statement in [
+        "CREATE VIEW v AS SELECT 9223372036854775808 * 9223372036854775808 * 1 AS c FROM t",
+        "CREATE VIEW v AS SELECT COUNT(*) + 9223372036854775808 AS c FROM t",
+        "CREATE VIEW v AS SELECT x.a, SUM(y.a + 1) AS c FROM t x LEFT JOIN (SELECT a FROM t) y ON x.a = y.a WHERE x.s <> 'b' GROUP BY x.a HAVING MAX(y.a) > 2",
+        "CREATE VIEW v AS SELECT a FROM t EXCEPT (SELECT a FROM t INTERSECT SELECT 1 FROM t)",
+    ] {
+        second_is_refused(&rt, alloc, statement.as_bytes(), NOT_BUILT)?;
+    }
+    Ok(())
+}

@@ -1,7 +1,8 @@
 use Rattle.std.proofs.lemmas.Result.{err_from_is_err_and, IfErr-weaker}
 use Rattle.std.proofs.Common.{subst, sym}
 use Rattle.sq_ast.specs.Spelling.{Spells}
-use Rattle.sq_top.proofs.Judging.{parse_stops, not_built}
+use Rattle.sq_check.proofs.QueriesSpelled.{each_spelled}
+use Rattle.sq_top.proofs.Judging.{parse_stops, statements_stop}
 use Rattle.sq_top.proofs.judge.judge_tokens.Goals as goal
 
 pub returns-in_err-statements-clause-refused : goal.returns-in_err-statements-clause-refused
@@ -12,5 +13,8 @@ returns-in_err-statements-clause-refused c =
 pub returns-clause-refused : goal.returns-clause-refused
 returns-clause-refused c =
     IfErr-weaker c.judge_statements.result _ _
-    (λ stop other. not_built c.args.tokens.now c.deref.result.now stop (subst (Spells c.args.tokens.now) (sym c.deref.ensures.value) c.in_ok-statements.ensures.found) other)
+    (λ stop wrong. statements_stop c.args.tokens.now c.deref.result.now stop (subst (Spells c.args.tokens.now) (sym c.deref.ensures.value) c.in_ok-statements.ensures.found) wrong)
     c.judge_statements.ensures.refused
+
+pub judge_statements-requires : goal.judge_statements-requires
+judge_statements-requires c = each_spelled c.args.tokens.now c.deref.result.now (subst (Spells c.args.tokens.now) (sym c.deref.ensures.value) c.in_ok-statements.ensures.found)
