@@ -43,7 +43,7 @@ use Rattle.sq_typed.proofs.Equations.{source-is, member-is, origin-Relation, ori
 use Rattle.sq_typed.proofs.FitEquations.{kinded_source-is, kinded-Relation, kinded-Query, kinded-Block, kinded-Chain, kinded-Intersect}
 use Rattle.sq_typed.proofs.FitRows.{Inside, length_filter, length_mapped, rows_of_where, rows_of_groups_are, rows_of_items, rows_once}
 use Rattle.sq_typed.proofs.Tests.{and_left, and_right, all_filter}
-use Rattle.sq_typed.proofs.Trees.{QueryCases, each_query}
+use Rattle.sq_typed.proofs.Trees.{QueryCases, each_query, each_origin}
 use Rattle.sq_typed.proofs.WhereLemmas.{where_keeps_the_last}
 
 -- ---- tests of lists
@@ -97,13 +97,13 @@ stage_shrinks conds Comma a before = omega arith
 stage_shrinks conds (Inner on) a before = omega arith
 stage_shrinks conds (Left on) a before = length_filter (all_hold conds) (joined_by [] (Left on) a before)
 
-last_few : (widths : List ℕ) (conds : List Cond) (k : ℕ) (before : List Row) (ss : List Source) → length before ≤ 2 ^ 61 → AllByRecursion IsFew (map (λ stage. stage.0) (stages_from widths conds k before ss)) → length (last_of before (stages_from widths conds k before ss)) ≤ 2 ^ 61
+pub last_few : (widths : List ℕ) (conds : List Cond) (k : ℕ) (before : List Row) (ss : List Source) → length before ≤ 2 ^ 61 → AllByRecursion IsFew (map (λ stage. stage.0) (stages_from widths conds k before ss)) → length (last_of before (stages_from widths conds k before ss)) ≤ 2 ^ 61
 last_few widths conds k before [] h few = h
 last_few widths conds k before (s ∷ ss) h few =
     last_few widths conds (suc k) (stage (members_at widths conds k) s.join s.answer before).1 ss
     (omega (arith, stage_shrinks (members_at widths conds k) s.join s.answer before, ltb-false (2 ^ 61) (length (stage (members_at widths conds k) s.join s.answer before).0) few.0)) few.1
 
-its_width : (a : Answer) (kinds : List Kind) → GivesKinds a kinds → HasItsWidth a
+pub its_width : (a : Answer) (kinds : List Kind) → GivesKinds a kinds → HasItsWidth a
 its_width a kinds h = all_weaker (λ row. AreOfKinds row kinds) (λ row. length row ≡ a.width) a.rows (λ row r. length_of_kinds row kinds r ∙ sym h.0) h.1
 
 sources_widths : (ss : List Source) (ks : List KindedSource) → Pairwise SourceGives ss ks → AllByRecursion (λ s. HasItsWidth s.answer) ss
@@ -382,6 +382,9 @@ module _ (relations : List Contents) (kss : List (List Kind)) (holds : Pairwise 
         (origin-Relation relations n) (kinded-Relation kss n) (relation_good relations kss holds n);
     of_query = λ q g. good_at (origin_answer relations (origin.Query q)) (answer relations q) (kinded_origin kss (origin.Query q)) (kinded kss q) (origin-Query relations q) (kinded-Query kss q) g;
   }
+
+  pub origin_gives : (o : Origin) → (kinded_origin kss o).fits ≡ true → InRange (origin_answer relations o) → GivesKinds (origin_answer relations o) (kinded_origin kss o).kinds
+  origin_gives o fits range = each_origin OriginGood QueryGood good_cases o fits range
 
   pub query_gives : (q : Query) → Fits kss q → InRange (answer relations q) → GivesKinds (answer relations q) (kinds_given kss q)
   query_gives q fits range = each_query OriginGood QueryGood good_cases q fits range
