@@ -1,14 +1,15 @@
 -- The columns that stars stand for.
-use Rattle.std.proofs.Common.{◌≡◌, ◌<◌, ℕ, zero, suc, ◌+◌, Bool, true, false, List, [], ◌∷◌, ◌++◌, map, length, get_or, take, refl, ap, sym, ◌∙◌, append_assoc, length-append, arith}
-use Rattle.std.specs.Prelude.{if◌then◌else◌, bytes_eq, Option}
+use Rattle.std.proofs.Common.{◌≡◌, ◌<◌, ℕ, zero, suc, ◌+◌, Bool, true, false, ◌&&◌, ◌||◌, List, [], ◌∷◌, ◌++◌, map, length, get_or, take, refl, ap, sym, ◌∙◌, append_assoc, length-append, arith}
+use Rattle.std.specs.Prelude.{if◌then◌else◌, Option}
+use Rattle.std.specs.List.{list_any}
 use Rattle.std.proofs.lemmas.List.{take_more}
 use Rattle.sq_ast.specs.declared.expr.ExprTree.{ExprTree}
 use Rattle.sq_ast.specs.declared.query.ItemTree.{ItemTree}
 use Rattle.sq_ast.specs.declared.query.ItemTree.TheVariants as item
 use Rattle.sq_catalog.specs.declared.relation.Column.{Column}
 use Rattle.sq_typed.specs.Scopes.{Named, Scope, Text, columns_in}
-use Rattle.sq_typed.specs.Selected.{Chosen, Starred, Written, starred, starred_from, written_out}
-use Rattle.sq_check.specs.TypesItems.{chosen_of, picks}
+use Rattle.sq_typed.specs.Selected.{Starred, Written, starred, starred_from, written_out}
+use Rattle.sq_check.specs.TypesItems.{chosen_of, picks, is_star, others}
 use Rattle.sq_check.specs.declared.chosen.ListItem.{ListItem}
 use Rattle.std.proofs.lemmas.List.{map-append}
 use Rattle.sq_check.proofs.TypesTrees.{append_empty}
@@ -91,3 +92,35 @@ appended item ss i s begin items after more adding was what at below is =
     ∙ (ap (λ is. starred (picks item) 0 (take i ss) ++ is) what
     ∙ (ap (λ n. starred (picks item) 0 (take i ss) ++ (if picks item s.name then starred_from n s.columns else [])) at
     ∙ sym (more_starred (picks item) ss i s below is)))))
+
+-- ---- plain stars apart from the other items
+
+star_first : (a g b r : Bool) → ((a && g) || b) ≡ r → ((true && g) || b) ≡ (g || r)
+star_first a true b r e = refl
+star_first true false b r e = e
+star_first false false b r e = e
+
+other_first : (x h b r : Bool) → (x || b) ≡ r → (x || (h || b)) ≡ (h || r)
+other_first x true b r e = either x
+  where
+    either : (x : Bool) → (x || true) ≡ true
+    either true = refl
+    either false = refl
+other_first true false b r e = e
+other_first false false b r e = e
+
+pub stars_apart : (test : ItemTree → Bool) (items : List ItemTree) → ((list_any is_star items && test item.Star) || list_any (others test) items) ≡ list_any test items
+stars_apart test [] = refl
+stars_apart test (item.Star ∷ is) = star_first (list_any is_star is) (test item.Star) (list_any (others test) is) (list_any test is) (stars_apart test is)
+stars_apart test (item.StarOf of ∷ is) = other_first (list_any is_star is && test item.Star) (test (item.StarOf of)) (list_any (others test) is) (list_any test is) (stars_apart test is)
+stars_apart test (item.Expr e alias ∷ is) = other_first (list_any is_star is && test item.Star) (test (item.Expr e alias)) (list_any (others test) is) (list_any test is) (stars_apart test is)
+
+-- the two answers together
+pub both_answers : (test : ItemTree → Bool) (items : List ItemTree) (stars rest : Bool) → stars ≡ (list_any is_star items && test item.Star) → rest ≡ list_any (others test) items → (stars || rest) ≡ list_any test items
+both_answers test items stars rest e f = ap (λ s. s || rest) e ∙ (ap (λ r. (list_any is_star items && test item.Star) || r) f ∙ stars_apart test items)
+
+pub no_star : (test : ItemTree → Bool) (items : List ItemTree) (found : Bool) → found ≡ list_any is_star items → found ≡ false → false ≡ (list_any is_star items && test item.Star)
+no_star test items found is none = ap (λ a. a && test item.Star) (sym none ∙ is)
+
+pub a_star : (test : ItemTree → Bool) (items : List ItemTree) (found answer : Bool) → found ≡ list_any is_star items → found ≡ true → answer ≡ test item.Star → answer ≡ (list_any is_star items && test item.Star)
+a_star test items found answer is some e = e ∙ ap (λ a. a && test item.Star) (sym some ∙ is)

@@ -17,3 +17,14 @@ abbrev pub picks : ItemTree → Text → Bool
 picks item.Star name = true
 picks (item.StarOf of) name = bytes_eq of name
 picks (item.Expr e alias) name = false
+
+abbrev pub is_star : ItemTree → Bool
+is_star item.Star = true
+is_star (item.StarOf of) = false
+is_star (item.Expr e alias) = false
+
+-- a test of the items that are no plain star
+abbrev pub others : (ItemTree → Bool) → ItemTree → Bool
+others test item.Star = false
+others test (item.StarOf of) = test (item.StarOf of)
+others test (item.Expr e alias) = test (item.Expr e alias)

@@ -1,6 +1,7 @@
 ghost use Rattle.std.specs.Prelude.{◌≡◌, ◌+◌, [], ◌∷◌, if◌then◌else◌, IfOk, map};
+ghost use Rattle.std.specs.List.{list_any};
 ghost use Rattle.sq_typed.specs.Selected.{starred, starred_from, written_out};
-ghost use Rattle.sq_check.specs.TypesItems.{chosen_of, picks};
+ghost use Rattle.sq_check.specs.TypesItems.{chosen_of, is_star, picks};
 
 use crate::keys::column_number;
 use crate::{Scope, Source};
@@ -92,6 +93,26 @@ fn numbered<'a>(
         items.push(ListItem::Starred { number, column })?;
     }
     Ok(items)
+}
+
+/// Whether a plain star is among the items. Takes no memory.
+pub(crate) fn has_star(items: &[ItemTree]) -> bool
+    ensures { result ≡ list_any is_star items.now }
+{
+    let mut found = false;
+    for item in items {
+        found |= is_star(item);
+    }
+    found
+}
+
+fn is_star(item: &ItemTree) -> bool
+    ensures { result ≡ is_star item.now }
+{
+    match item {
+        ItemTree::Star => true,
+        ItemTree::StarOf(_) | ItemTree::Expr { .. } => false,
+    }
 }
 
 // Whether the item is a star of the source with this name.

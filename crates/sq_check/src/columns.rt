@@ -1,5 +1,6 @@
 ghost use Rattle.std.specs.Prelude.{◌≡◌, ◌++◌, ◌∷◌, [], if◌then◌else◌, IfOk, MatchOption, OnOk, false, length, map, nat_lt, take, true};
 ghost use Rattle.std.specs.List.{flat_map};
+ghost use Rattle.sq_ast.specs.declared.query.ItemTree.TheVariants.{Star};
 ghost use Rattle.sq_typed.specs.Faults.{has_long_list, names};
 ghost use Rattle.sq_typed.specs.Scopes.{repeats};
 ghost use Rattle.sq_typed.specs.Selected.{block_columns, chosen, starred, written_out};
@@ -30,20 +31,24 @@ pub fn chosen_count(scope: &Scope, block: &BlockTree) -> Result<u64, NoMemory>
 fn items_count(scope: &Scope, items: &[ItemTree]) -> Result<usize, NoMemory>
     ensures { IfOk result (λ count. count ≡ length (flat_map (written_out scope.now) items.now)) }
 {
+    // Of a plain star once, however often it is there.
+    let whole = star_count(scope, &ItemTree::Star)?;
     let mut count = 0;
     for item in items {
-        let more = item_count(scope, item)?;
+        let more = item_count(scope, whole, item)?;
         count = sum(count, more)?;
     }
     Ok(count)
 }
 
-fn item_count(scope: &Scope, item: &ItemTree) -> Result<usize, NoMemory>
+fn item_count(scope: &Scope, whole: usize, item: &ItemTree) -> Result<usize, NoMemory>
+    requires { whole ≡ length (starred (picks Star) 0 scope.now) }
     ensures { IfOk result (λ count. count ≡ length (written_out scope.now item.now)) }
 {
     match item {
         ItemTree::Expr { .. } => Ok(1),
-        ItemTree::Star | ItemTree::StarOf(_) => star_count(scope, item),
+        ItemTree::Star => Ok(whole),
+        ItemTree::StarOf(_) => star_count(scope, item),
     }
 }
 

@@ -1,0 +1,11 @@
+use Rattle.std.proofs.Common.{◌≡◌, map, take}
+use Rattle.std.specs.List.{list_any}
+use Rattle.sq_typed.specs.Leaves.{exprs_in}
+use Rattle.sq_typed.specs.Selected.{written_out}
+use Rattle.sq_check.specs.TypesBare.{bare_item}
+use Rattle.sq_check.specs.TypesItems.{others}
+use Rattle.sq_check.proofs.bare.any_other_is_bare.Given as goal
+
+-- whether an item so far names such a column
+abbrev pub invariant-loop-item : goal.invariant-loop-item
+invariant-loop-item l = l.found ≡ list_any (others (λ i. list_any (bare_item l.row l.keys.numbers) (written_out l.scope i))) (take l.item-index l.items)
