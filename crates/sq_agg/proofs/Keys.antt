@@ -1,5 +1,5 @@
--- The keys of groups, and the rows of a group.
-use Rattle.std.proofs.Common.{◌≡◌, ℕ, ◌+◌, ◌^◌, ◌≤◌, List, [], ◌∷◌, ◌++◌, map, Bool, true, false, cond, not, filter, take, ℤ, pos, Some, None, refl, sym, ap, subst, ◌∙◌, is_eq, unsigned_abs, sum_by, arith, if◌then◌else◌}
+-- The rows of a group.
+use Rattle.std.proofs.Common.{◌≡◌, ℕ, ◌+◌, ◌^◌, ◌≤◌, List, [], ◌∷◌, ◌++◌, map, Bool, true, false, cond, not, filter, take, ℤ, pos, Some, None, refl, sym, ap, subst, ◌∙◌, is_eq, unsigned_abs, arith}
 use Rattle.std.specs.Prelude.{slice_get, ◌≤ℤ◌}
 use Rattle.std.specs.List.{All, AllByRecursion}
 use Rattle.std.proofs.lemmas.List.Elements.{All-from_recursion, recursion_from_All}
@@ -21,31 +21,12 @@ use Rattle.sq_algebra.proofs.MemberLemmas.{entries-of_list}
 use Rattle.sq_zset.specs.declared.pair.Pair.{Pair}
 use Rattle.sq_zset.specs.Collecting.{mass_of}
 use Rattle.sq_zset.specs.Pairs.{mass, weighted_rows}
-use Rattle.sq_zset.specs.Range.{first_outside, first_outside_in, IsInRange, is_in_range}
+use Rattle.sq_zset.specs.Range.{first_outside, first_outside_in, IsInRange}
 use Rattle.sq_zset.proofs.Entries.{none_first}
 use Rattle.sq_ops.specs.declared.aggregate.AggSpec.{AggSpec}
 use Rattle.sq_ops.specs.Aggregates.{SuitsSpec, group_of, groups_of, rows_of_group}
-use Rattle.sq_ops.specs.Measures.{IsGroup}
+use Rattle.sq_ops.specs.Measures.{IsMeasurable}
 use Rattle.sq_ops.proofs.Lists.{take_more}
-use Rattle.sq_ops.proofs.Measuring.{small_mass}
-
--- a list that is mapped, one member more
-pub mapped_more : {A B : Type 0} (f : A → B) (xs : List A) (i : ℕ) (x : A) → slice_get xs i ≡ Some x → map f (take (i + 1) xs) ≡ map f (take i xs) ++ f x ∷ []
-mapped_more f xs i x found = ap (map f) (take_more xs i x found) ∙ map-append f (take i xs) (x ∷ [])
-
-same_keys : (n : List Value → ℤ) (cs : List (List Value)) → keys (map (λ c. (c, n c)) cs) ≡ cs
-same_keys n [] = refl
-same_keys n (c ∷ cs) = ap (λ xs. c ∷ xs) (same_keys n cs)
-
-pub keys_counted : (spec : AggSpec) (z : ZSet (List Value) row_cmp) → spec.global ≡ false → keys (entries (of_list row_cmp (map (λ e. group_of spec e.0) (entries z)))) ≡ groups_of spec z
-unfolding keys_of
-keys_counted spec z e =
-    ap keys (entries-of_list row_cmp row_cmp-total row_cmp-antisymmetric (map (λ e. group_of spec e.0) (entries z)))
-    ∙ same_keys (λ c. pos (count row_cmp c (map (λ e. group_of spec e.0) (entries z)))) (in_order row_cmp (map (λ e. group_of spec e.0) (entries z)))
-    ∙ sym (ap (λ b. cond b ([] ∷ []) (in_order row_cmp (map (λ e. group_of spec e.0) (entries z)))) e)
-
-pub one_group : (spec : AggSpec) (z : ZSet (List Value) row_cmp) → spec.global ≡ true → [] ∷ [] ≡ groups_of spec z
-one_group spec z e = sym (ap (λ b. cond b ([] ∷ []) (keys_of row_cmp (group_of spec) z)) e)
 
 -- ---- the rows of a group
 pub group_rows : (spec : AggSpec) (key : List Value) (z : ZSet (List Value) row_cmp) → from_pairs row_cmp (filter (λ e. is_eq (row_cmp key (group_of spec e.0))) (entries z)) ≡ rows_of_group spec z key
@@ -77,11 +58,11 @@ module _ (p : List Value × ℤ → Bool) where
       ]
 
 module _ (spec : AggSpec) (key : List Value) (z : ZSet (List Value) row_cmp) (pairs : List Pair) (made : weighted_rows pairs ≡ filter (λ e. is_eq (row_cmp key (group_of spec e.0))) (entries z)) where
-  pub group_weighs : IsGroup z → mass pairs ≤ 2 ^ 126
+  pub group_weighs : IsMeasurable z → mass pairs ≤ 2 ^ 126
   group_weighs group =
       let weighs = masses pairs ∙ ap mass_of made in
       let less = less_mass (λ e. is_eq (row_cmp key (group_of spec e.0))) (entries z) in
-      let small = small_mass z group in
+      let small = group.few in
       omega arith
 
   pub group_made : from_pairs row_cmp (weighted_rows pairs) ≡ rows_of_group spec z key

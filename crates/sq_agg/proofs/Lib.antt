@@ -1,3 +1,10 @@
+pub mod Placing
 pub mod Keys
 pub mod Shown
 pub mod Testing
+pub mod PlaceOrder
+pub mod Adding
+pub mod Bounding
+pub mod Summing
+pub mod Tallying
+pub mod Holding

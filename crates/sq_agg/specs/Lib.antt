@@ -1,1 +1,4 @@
 pub mod ByKey
+pub mod Accumulators
+pub mod Tallies
+pub mod GroupLaws

@@ -1,98 +1,74 @@
-ghost use Rattle.std.specs.Prelude.{◌≡◌, ◌++◌, ◌∷◌, [], ◌<◌, List, length, map, pos, Some, IfOk, OnOk, if◌then◌else◌};
+ghost use Rattle.std.specs.Prelude.{◌≡◌, ◌++◌, ◌∷◌, [], ◌<◌, List, length, Some, IfOk, OnOk, if◌then◌else◌};
+ghost use Rattle.std.specs.BTreeMap.{keys};
 ghost use Rattle.std.specs.List.{All};
 ghost use Rattle.std.specs.Ordering.{is_eq};
-ghost use Rattle.sq_algebra.specs.ZSet.{entries, keys};
+ghost use Rattle.sq_agg.specs.ByKey.{places_of};
+ghost use Rattle.sq_algebra.specs.Listed.{place};
+ghost use Rattle.sq_algebra.specs.ZSet.{entries};
 ghost use Rattle.sq_ops.specs.Aggregates.{SuitsSpec, group_of, groups_of, rows_of_group};
-ghost use Rattle.sq_ops.specs.Fits.{FitsRow, FitsRows};
-ghost use Rattle.sq_ops.specs.Indexes.{entries_at, places_at, with_key};
-ghost use Rattle.sq_ops.specs.Measures.{IsGroup};
+ghost use Rattle.sq_ops.specs.Fits.{FitsRows};
+ghost use Rattle.sq_ops.specs.Indexes.{entries_at, with_key};
+ghost use Rattle.sq_ops.specs.Measures.{IsMeasurable};
 ghost use Rattle.sq_value.specs.declared.value.Value.{Value as Datum};
 ghost use Rattle.sq_value.specs.Order.{row_cmp};
 ghost use Rattle.sq_zset.specs.Pairs.{weighted_rows};
 ghost use Rattle.sq_zset.specs.Range.{IsInRange};
 
-use sq_ops::{AggSpec, Index, Whole, count_rows};
+use sq_ops::{AggSpec, Whole};
 use sq_value::{NoMemory, Row};
 use sq_zset::{Pair, ZFault, ZSet};
 use std::alloc::Global;
+use std::collections::BTreeMap;
 
-/// The keys of the groups, ascending.
-pub fn group_keys(alloc: Global, spec: &AggSpec, z: &ZSet) -> Result<Vec<Row>, NoMemory>
+/// The places at which the rows of each group stand, by the key of the group.
+pub fn group_places(
+    alloc: Global,
+    spec: &AggSpec,
+    z: &ZSet,
+) -> Result<BTreeMap<Row, Vec<usize>>, NoMemory>
     requires { FitsRows (SuitsSpec spec.now) z.now }
-    ensures { IfOk result (λ list. list.items ≡ groups_of spec.now z.now) }
+    ensures keys { IfOk result (λ groups. keys groups ≡ groups_of spec.now z.now) }
+    ensures in_range { IfOk result (λ groups. (key : List Datum) → All (λ i. i < length (entries z.now)) (places_of groups key)) }
+    ensures rows { IfOk result (λ groups. (key : List Datum) → entries_at (entries z.now) (places_of groups key) ≡ with_key (λ row. Some (group_of spec.now row)) key (entries z.now)) }
 {
-    if spec.global {
-        return one_key(alloc);
-    }
-    let each = key_of_each(alloc, spec, z)?;
-    let counted = count_rows(alloc, each)?;
-    let list = rows_of(alloc, &counted)?;
-    Ok(list)
-}
-
-// The key without values.
-fn one_key(alloc: Global) -> Result<Vec<Row>, NoMemory>
-    ensures { IfOk result (λ list. list.items ≡ [] ∷ []) }
-{
-    let mut list = Vec::new(alloc);
-    list.push(Row::of(Vec::new(alloc)))?;
-    Ok(list)
-}
-
-// The key of each row.
-fn key_of_each(alloc: Global, spec: &AggSpec, z: &ZSet) -> Result<Vec<Row>, NoMemory>
-    requires { FitsRows (SuitsSpec spec.now) z.now }
-    ensures { IfOk result (λ list. list.items ≡ map (λ e. group_of spec.now e.0) (entries z.now)) }
-{
-    let mut list = Vec::with_capacity(alloc, z.len())?;
+    let mut groups = groups_over_no_rows(alloc, spec)?;
     for i in 0..z.len() {
         let (row, _) = z.at(i);
         let key = spec.key(alloc, row)?;
-        list.push(key)?;
+        add_place(alloc, key, i, &mut groups)?;
     }
-    Ok(list)
+    Ok(groups)
 }
 
-// The rows, ascending.
-fn rows_of(alloc: Global, z: &ZSet) -> Result<Vec<Row>, NoMemory>
-    ensures { IfOk result (λ list. list.items ≡ keys (entries z.now)) }
+// A global aggregate has its one group, whose key has no values, also over no rows.
+fn groups_over_no_rows(alloc: Global, spec: &AggSpec) -> Result<BTreeMap<Row, Vec<usize>>, NoMemory>
+    ensures keys { IfOk result (λ groups. keys groups ≡ (if spec.now.global then [] ∷ [] else [])) }
+    ensures places { IfOk result (λ groups. (key : List Datum) → places_of groups key ≡ []) }
 {
-    let mut list = Vec::with_capacity(alloc, z.len())?;
-    for i in 0..z.len() {
-        let (row, _) = z.at(i);
-        let copy = row.clone_row(alloc)?;
-        list.push(copy)?;
+    let mut groups = BTreeMap::new(alloc);
+    if spec.global {
+        groups.insert(Row::of(Vec::new(alloc)), Vec::new(alloc))?;
     }
-    Ok(list)
+    Ok(groups)
 }
 
-/// The places at which the rows of each group stand.
-pub fn group_index(alloc: Global, spec: &AggSpec, z: &ZSet) -> Result<Index, NoMemory>
-    requires { FitsRows (SuitsSpec spec.now) z.now }
-    ensures in_range { IfOk result (λ index. (key : List Datum) → All (λ i. i < length (entries z.now)) (places_at index key)) }
-    ensures rows { IfOk result (λ index. (key : List Datum) → entries_at (entries z.now) (places_at index key) ≡ with_key (λ row. Some (group_of spec.now row)) key (entries z.now)) }
-{
-    let mut index = Index::new(alloc);
-    for place in 0..z.len() {
-        let (row, _) = z.at(place);
-        add_row(alloc, spec, row, place, &mut index)?;
-    }
-    Ok(index)
-}
-
-// Puts the place behind those of the row's key.
-fn add_row(
+// Puts the place behind those of the key.
+fn add_place(
     alloc: Global,
-    spec: &AggSpec,
-    row: &Row,
-    place: usize,
-    index: &mut Index,
+    key: Row,
+    i: usize,
+    groups: &mut BTreeMap<Row, Vec<usize>>,
 ) -> Result<(), NoMemory>
-    requires { FitsRow (SuitsSpec spec.now) row.now }
-    ensures { OnOk result ((key : List Datum) → places_at index.new key ≡ places_at index.old key ++ (if is_eq (row_cmp key (group_of spec.now row.now)) then place ∷ [] else [])) }
+    ensures keys { OnOk result (keys groups.new ≡ place row_cmp key (keys groups.old)) }
+    ensures places { OnOk result ((k : List Datum) → places_of groups.new k ≡ places_of groups.old k ++ (if is_eq (row_cmp k key) then i ∷ [] else [])) }
 {
-    let key = spec.key(alloc, row)?;
-    index.add(alloc, key, place)?;
+    if let Some(places) = groups.get_mut(&key) {
+        places.push(i)?;
+        return Ok(());
+    }
+    let mut places = Vec::new(alloc);
+    places.push(i)?;
+    groups.insert(key, places)?;
     Ok(())
 }
 
@@ -104,12 +80,13 @@ pub fn rows_at(
     z: &ZSet,
     places: &[usize],
 ) -> Result<ZSet, NoMemory>
-    requires group { IsGroup z.now }
+    requires group { IsMeasurable z.now }
     requires in_range { All (λ i. i < length (entries z.now)) places.now }
     requires rows { entries_at (entries z.now) places.now ≡ with_key (λ row. Some (group_of spec.now row)) key.now (entries z.now) }
     ensures { IfOk result (λ rows. rows ≡ rows_of_group spec.now z.now key.now) }
 {
     let pairs = pairs_at(alloc, z, places)?;
+    // The rows ascend already, so sorting them takes one pass.
     match ZSet::consolidate(alloc, pairs) {
         Ok(rows) => Ok(rows),
         Err(ZFault::Memory) => Err(NoMemory),

@@ -1,9 +1,15 @@
 //! GROUP BY and aggregates on Z-sets of rows (DBSP, PVLDB 16(7), 2023).
 #![tactic(auto)]
 
+mod acc;
+#[cfg(test)]
+mod acc_tests;
 mod group;
+pub mod laws;
+mod tally;
 #[cfg(test)]
 mod tests;
 mod whole;
 
+pub use acc::Acc;
 pub use whole::agg_whole;

@@ -1,12 +1,11 @@
 -- A list of rows as pairs of weight 1, and the weights of its Z-set.
-use Rattle.std.proofs.Common.{◌≡◌, ℕ, zero, suc, ◌+◌, ◌<◌, ◌≤◌, List, [], ◌∷◌, ◌++◌, map, Bool, true, false, cond, not, ℤ, pos, None, Some, length, ◌^◌, get_or, refl, sym, ap, ap₂, subst, ◌∙◌, arith, is_eq, unsigned_abs, nat_le, sum_by}
+use Rattle.std.proofs.Common.{◌≡◌, suc, ◌+◌, ◌≤◌, List, [], ◌∷◌, true, cond, not, ℤ, pos, None, Some, length, ◌^◌, get_or, refl, sym, ap, ◌∙◌, arith, is_eq, unsigned_abs, sum_by}
 use Rattle.std.specs.List.{All}
-use Rattle.std.proofs.lemmas.List.{map-append}
 use Rattle.std.proofs.lemmas.List.Sums.{count_by-le-length, sum_by-cons}
 use Rattle.std.proofs.lemmas.Bool.{le-leb}
 use Rattle.sq_value.specs.declared.value.Value.{Value}
 use Rattle.sq_value.specs.Order.{row_cmp}
-use Rattle.sq_value.specs.OrderLaws.{row_cmp-total, row_cmp-antisymmetric}
+use Rattle.sq_value.specs.OrderLaws.{row_cmp-total}
 use Rattle.sq_algebra.specs.Listed.{count}
 use Rattle.sq_algebra.specs.Operators.{weighing}
 use Rattle.sq_algebra.specs.ZSet.{entries, entries-zero, from_pairs, of_list, zero as no_rows}

@@ -2,7 +2,6 @@
 use Rattle.std.proofs.Common.{◌≡◌, ℕ, zero, suc, ◌^◌, ◌≤◌, List, [], ◌∷◌, Bool, true, false, cond, ◌&&◌, ℤ, pos, negsuc, None, length, get_or, refl, sym, ap, ◌∙◌, nat_eq, unsigned_abs, lit≤, arith}
 use Rattle.std.specs.Prelude.{◌≤ℤ◌, FitsSigned}
 use Rattle.std.specs.Int.{w32, w64}
-use Rattle.std.specs.List.{All, flat_map}
 use Rattle.std.proofs.lemmas.Bool.Decides.{nat_tests}
 use borrow.Author.Differences.{ints}
 use Rattle.sq_value.specs.declared.value.Value.{Value}
@@ -10,22 +9,23 @@ use Rattle.sq_value.specs.declared.value.Value.TheVariants.{Null, Int, Text}
 use Rattle.sq_value.specs.Order.{row_cmp}
 use Rattle.sq_value.specs.OrderLaws.{row_cmp-total, row_cmp-antisymmetric}
 use Rattle.sq_algebra.specs.Groups.{integers}
-use Rattle.sq_algebra.specs.Operators.{IsNonNegative, lin}
+use Rattle.sq_algebra.specs.Operators.{IsNonNegative}
 use Rattle.sq_algebra.specs.ZSet.{ZSet, entries, entries-zero, of_list, same_entries, total, zero as no_rows}
 use Rattle.sq_algebra.proofs.OperatorLemmas.{of_list-nil}
 use Rattle.sq_expr.specs.declared.expr.Func.TheVariants.{CountAll, Count, Sum, Min, Max}
 use Rattle.sq_expr.specs.declared.expr.Kind.{Kind}
 use Rattle.sq_expr.specs.declared.expr.Kind.TheVariants as kind
 use Rattle.sq_expr.specs.Kinds.{AreOfKinds, IsOfKind}
-use Rattle.sq_expr.specs.Meaning.{column_of}
 use Rattle.sq_zset.proofs.RowOperators.{lin-zero}
+use Rattle.sq_zset.specs.Collecting.{mass_of}
 use Rattle.sq_zset.specs.GroupLaws.{integers_are_abelian}
 use Rattle.sq_ops.specs.declared.aggregate.Call.{Call}
-use Rattle.sq_ops.specs.Aggregates.{number_at, number_or_zero, sums_of, sum_in, tested_sum}
+use Rattle.sq_ops.specs.Aggregates.{number_at, number_or_zero, sums_of, tested_sum}
 use Rattle.sq_ops.specs.Bigint.{first_not_bigint}
-use Rattle.sq_ops.specs.Fits.{FitsRow, FitsRows}
-use Rattle.sq_ops.specs.Measures.{HasBigints, IsGroup}
+use Rattle.sq_ops.specs.Fits.{FitsRows}
+use Rattle.sq_ops.specs.Measures.{HasBigints, IsMeasurable}
 use Rattle.sq_ops.specs.Wholes.{has_no_values}
+use Rattle.sq_ops.proofs.Measuring.{small_mass}
 use Rattle.sq_ops.proofs.Ranges.{first_later}
 
 -- ---- the numbers in a row of kinds
@@ -50,12 +50,12 @@ column_bound (x ∷ row) [] h column = absurd h
 column_bound (x ∷ row) (kind ∷ kinds) h zero = number_bound x kind h.0
 column_bound (x ∷ row) (kind ∷ kinds) h (suc column) = column_bound row kinds h.1 column
 
-pub fitting_group : (suits : List Kind → Type 0) (z : ZSet (List Value) row_cmp) → FitsRows suits z → IsNonNegative z → total z ≤ℤ pos (2 ^ 61) → IsGroup z
-fitting_group suits z fits proper bounded = record {
-  not_negative = proper;
-  bounded = bounded;
-  has_bigints = λ i d low. let fit = fits i d low in column_bound (get_or (entries z) i d).0 fit.kinds fit.of_kinds;
-}
+-- a change of so few rows, and the rows of a group
+pub fitting_change : (suits : List Kind → Type 0) (z : ZSet (List Value) row_cmp) → FitsRows suits z → mass_of (entries z) ≤ 2 ^ 62 → IsMeasurable z
+fitting_change suits z fits few = record { few = few; has_bigints = λ i d low. let fit = fits i d low in column_bound (get_or (entries z) i d).0 fit.kinds fit.of_kinds }
+
+pub fitting_group : (suits : List Kind → Type 0) (z : ZSet (List Value) row_cmp) → FitsRows suits z → IsNonNegative z → total z ≤ℤ pos (2 ^ 61) → IsMeasurable z
+fitting_group suits z fits proper bounded = fitting_change suits z fits (let small = small_mass z proper bounded in omega arith)
 
 -- ---- no rows
 eqb_suc_zero : (n : ℕ) → nat_eq (suc n) 0 ≡ false

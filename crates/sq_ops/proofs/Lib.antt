@@ -11,4 +11,6 @@ pub mod Folding
 pub mod Calling
 pub mod Grouping
 pub mod Indexed
+pub mod Extremes
 pub mod ListTies
+pub mod Testing

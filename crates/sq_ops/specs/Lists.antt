@@ -1,29 +1,72 @@
 -- Joins and aggregates of lists of rows, each row as often as it stands there.
+--     values_of column rows         the values in a column that are not NULL
+--     least_of xs, greatest_of xs   the least and the greatest of some values, NULL of none
 --     list_value f column rows      the value of a call over the rows of a group
 --     row_of_list calls c rows      the row of the group with the key c.     group_of_list calls c rows     the same as a list, empty for no rows
-use Rattle.std.specs.Prelude.{ℕ, if◌then◌else◌, List, [], ◌∷◌, ◌++◌, map, fold, length, pos}
-use Rattle.std.specs.List.{filter}
+--     rows_by_keys spec cs rows     the rows of the groups with the keys cs, in the order of cs
+--     all_pairs rows others         each row with each other one, in the order of nested loops
+--     is_joined op pair, row_of_pair op pair     whether a join gives a row for a pair, and which
+use Rattle.std.specs.Prelude.{ℕ, Bool, false, not, ◌&&◌, if◌then◌else◌, List, [], ◌∷◌, ◌++◌, map, fold, length, pos, Option, Some, None}
+use Rattle.std.specs.List.{filter, flat_map}
+use Rattle.std.specs.Ordering.{is_eq, is_lt}
 use Rattle.sq_value.specs.declared.value.Value.{Value}
 use Rattle.sq_value.specs.declared.value.Value.TheVariants.{Null, Int}
-use Rattle.sq_value.specs.Order.{row_cmp}
+use Rattle.sq_value.specs.Order.{row_cmp, value_cmp}
 use Rattle.sq_algebra.specs.Groups.{integers, sum_over}
-use Rattle.sq_algebra.specs.Listed.{in_order}
+use Rattle.sq_algebra.specs.Keyed.{members_at}
 use Rattle.sq_expr.specs.declared.expr.Func.{Func}
 use Rattle.sq_expr.specs.declared.expr.Func.TheVariants.{CountAll, Count, Sum, Min, Max}
-use Rattle.sq_expr.specs.Meaning.{column_of}
+use Rattle.sq_expr.specs.Meaning.{column_of, is_null}
+use Rattle.sq_ops.specs.declared.aggregate.AggSpec.{AggSpec}
 use Rattle.sq_ops.specs.declared.aggregate.Call.{Call}
-use Rattle.sq_ops.specs.Aggregates.{greater, has_value, lesser, number_at}
+use Rattle.sq_ops.specs.declared.bilinear.Pairing.{Pairing}
+use Rattle.sq_ops.specs.Aggregates.{group_of, has_value, number_at}
+use Rattle.sq_ops.specs.Joins.{columns_of, key_in}
+use Rattle.sq_ops.specs.Rows.{holds}
 use Rattle.sq_ops.specs.Wholes.{has_no_values}
+
+-- ---- aggregates
+
+abbrev pub values_of : ℕ → List (List Value) → List Value
+values_of column rows = filter (λ x. not (is_null x)) (map (λ row. column_of row column) rows)
+
+abbrev pub least_of : List Value → Value
+least_of [] = Null
+least_of (x ∷ xs) = fold (λ a b. if is_lt (value_cmp b a) then b else a) x xs
+
+abbrev pub greatest_of : List Value → Value
+greatest_of [] = Null
+greatest_of (x ∷ xs) = fold (λ a b. if is_lt (value_cmp a b) then b else a) x xs
 
 abbrev pub list_value : Func → ℕ → List (List Value) → Value
 list_value CountAll column rows = Int (pos (length rows))
 list_value Count column rows = Int (pos (length (filter (has_value column) rows)))
 list_value Sum column rows = if has_no_values (filter (has_value column) rows) then Null else Int (sum_over integers (number_at column) rows)
-list_value Min column rows = fold lesser Null (map (λ row. column_of row column) (in_order row_cmp rows))
-list_value Max column rows = fold greater Null (map (λ row. column_of row column) (in_order row_cmp rows))
+list_value Min column rows = least_of (values_of column rows)
+list_value Max column rows = greatest_of (values_of column rows)
 
 abbrev pub row_of_list : List Call → List Value → List (List Value) → List Value
 row_of_list calls c rows = c ++ map (λ call. list_value call.func call.arg rows) calls
 
 abbrev pub group_of_list : List Call → List Value → List (List Value) → List (List Value)
 group_of_list calls c rows = if has_no_values rows then [] else row_of_list calls c rows ∷ []
+
+abbrev pub rows_by_keys : AggSpec → List (List Value) → List (List Value) → List (List Value)
+rows_by_keys spec cs rows = flat_map (λ c. group_of_list spec.calls.items c (members_at row_cmp (group_of spec) c rows)) cs
+
+-- ---- joins
+
+abbrev pub all_pairs : List (List Value) → List (List Value) → List (List Value × List Value)
+all_pairs rows others = flat_map (λ row. map (λ other. (row, other)) others) rows
+
+-- whether two keys are there and the same
+abbrev pub is_same_key : Option (List Value) → Option (List Value) → Bool
+is_same_key None other = false
+is_same_key (Some c) None = false
+is_same_key (Some c) (Some d) = is_eq (row_cmp c d)
+
+abbrev pub is_joined : Pairing → List Value × List Value → Bool
+is_joined op pair = is_same_key (key_in op.left.items op.nulls_match pair.0) (key_in op.right.items op.nulls_match pair.1) && holds op.keep (pair.0 ++ pair.1)
+
+abbrev pub row_of_pair : Pairing → List Value × List Value → List Value
+row_of_pair op pair = columns_of op.items.items (pair.0 ++ pair.1)

@@ -1,10 +1,10 @@
--- What is added up over the rows of a group, in private contracts.
-use Rattle.std.specs.Prelude.{◌≡◌, ℕ, ◌^◌, ◌≤◌, if◌then◌else◌, List, ℤ, pos, ◌≤ℤ◌, unsigned_abs}
+-- What is added up over the rows of a group, or of its change.
+use Rattle.std.specs.Prelude.{ℕ, ◌^◌, ◌≤◌, if◌then◌else◌, List, ℤ, pos, unsigned_abs}
 use Rattle.std.specs.List.{All}
 use Rattle.sq_value.specs.declared.value.Value.{Value}
 use Rattle.sq_value.specs.Order.{row_cmp}
-use Rattle.sq_algebra.specs.Operators.{IsNonNegative}
-use Rattle.sq_algebra.specs.ZSet.{ZSet, entries, total}
+use Rattle.sq_algebra.specs.ZSet.{ZSet, entries}
+use Rattle.sq_zset.specs.Collecting.{mass_of}
 use Rattle.sq_ops.specs.declared.measure.Measure.{Measure}
 use Rattle.sq_ops.specs.declared.measure.Measure.TheVariants.{Values, Numbers}
 use Rattle.sq_ops.specs.Aggregates.{has_value, number_at}
@@ -18,8 +18,7 @@ factor_of Numbers column row = number_at column row
 abbrev pub HasBigints : List Value → Type 0
 HasBigints row = (column : ℕ) → unsigned_abs (number_at column row) ≤ 2 ^ 63
 
--- the rows of a group: without negative weights, and so few that counts and sums fit
-pub record IsGroup (z : ZSet (List Value) row_cmp) : Type 0 where
-  pub not_negative : IsNonNegative z
-  pub bounded : total z ≤ℤ pos (2 ^ 61)
+-- so few rows, with such numbers, that what is added up over them fits
+pub record IsMeasurable (z : ZSet (List Value) row_cmp) : Type 0 where
+  pub few : mass_of (entries z) ≤ 2 ^ 62
   pub has_bigints : All (λ e. HasBigints e.0) (entries z)

@@ -1,7 +1,7 @@
 -- Distinct and aggregates are the sums of their parts by key, and a part over no rows is empty.
-use Rattle.std.specs.Prelude.{◌≡◌, ℕ, ◌<◌, ◌≤◌, Bool, true, false, not, ◌&&◌, if◌then◌else◌, List, [], ◌∷◌, ◌++◌, map, length, pos, int_lt}
+use Rattle.std.specs.Prelude.{◌≡◌, ℕ, ◌<◌, ◌≤◌, Bool, true, false, not, ◌&&◌, if◌then◌else◌, List, [], ◌∷◌, map, length}
 use Rattle.std.specs.List.{flat_map}
-use Rattle.std.proofs.Common.{refl, sym, ap, subst, ◌∙◌, cond, get_or, arith}
+use Rattle.std.proofs.Common.{refl, sym, ap, subst, ◌∙◌, get_or, arith}
 use Rattle.std.proofs.lemmas.List.{map-id}
 use Rattle.sq_value.specs.declared.value.Value.{Value}
 use Rattle.sq_value.specs.Order.{row_cmp}
@@ -9,7 +9,7 @@ use Rattle.sq_value.specs.OrderLaws.{row_cmp-total, row_cmp-antisymmetric}
 use Rattle.sq_algebra.specs.Groups.{z_sets, sum_over}
 use Rattle.sq_algebra.specs.Keyed.{at_key, by_key, keys_of}
 use Rattle.sq_algebra.specs.Listed.{count}
-use Rattle.sq_algebra.specs.Operators.{distinct, keep}
+use Rattle.sq_algebra.specs.Operators.{distinct}
 use Rattle.sq_algebra.specs.ZSet.{ZSet, zero, entries, entries-zero, same_entries, of_list, plus}
 use Rattle.sq_algebra.proofs.GroupLemmas.{minus-zero, minus-self, neutral_right, plus-minus_back, sum_over_agree_at}
 use Rattle.sq_algebra.proofs.KeyedLemmas.{by_key_agree, by_key_over, count-member, distinct_by_key, distinct_part, distinct_part-zero, no_key_from}
@@ -17,7 +17,7 @@ use Rattle.sq_algebra.proofs.OperatorLemmas.{keep_all, of_list-flat_map, of_list
 use Rattle.sq_zset.specs.GroupLaws.{rows_are_abelian}
 use Rattle.sq_ops.specs.declared.aggregate.AggSpec.{AggSpec}
 use Rattle.sq_ops.specs.declared.aggregate.Call.{Call}
-use Rattle.sq_ops.specs.Aggregates.{aggregated, group_of, group_row, groups_of, part_of, rows_of_group}
+use Rattle.sq_ops.specs.Aggregates.{aggregated, group_of, group_row, part_of, rows_of_group}
 use Rattle.sq_ops.specs.Joins.{columns_of}
 use Rattle.sq_ops.specs.Wholes.{IsNothingForNone, beyond_none, has_no_values, sum_of_parts}
 

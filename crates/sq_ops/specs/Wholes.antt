@@ -8,8 +8,7 @@ use Rattle.sq_value.specs.declared.value.Value.{Value}
 use Rattle.sq_value.specs.Order.{row_cmp}
 use Rattle.sq_algebra.specs.Groups.{z_sets}
 use Rattle.sq_algebra.specs.Keyed.{by_key}
-use Rattle.sq_algebra.specs.Operators.{distinct}
-use Rattle.sq_algebra.specs.ZSet.{ZSet, zero, single, plus, minus, weight}
+use Rattle.sq_algebra.specs.ZSet.{ZSet, zero, plus, minus}
 
 abbrev pub has_no_values : {X : Type 0} → List X → Bool
 has_no_values [] = true

@@ -6,7 +6,7 @@ ghost use Rattle.sq_ops.specs.Aggregates.{SuitsSpec, call_suits, call_value, gro
 ghost use Rattle.sq_expr.specs.declared.expr.Func.TheVariants.{Sum};
 ghost use Rattle.sq_ops.specs.Bigint.{first_not_bigint};
 ghost use Rattle.sq_ops.specs.Fits.{FitsRows};
-ghost use Rattle.sq_ops.specs.Measures.{IsGroup};
+ghost use Rattle.sq_ops.specs.Measures.{IsMeasurable};
 ghost use Rattle.sq_ops.specs.Wholes.{has_no_values};
 ghost use Rattle.sq_value.specs.declared.value.Value.{Value as Datum};
 
@@ -182,7 +182,7 @@ fn keyed_row(alloc: Global, key: &Row, mut values: Vec<Value>) -> Result<Row, No
 
 // The values of the calls over the rows of a group, or the first SUM outside the range of BIGINT.
 fn call_values(alloc: Global, calls: &[Call], z: &ZSet) -> Result<Vec<Value>, OpFault>
-    requires { IsGroup z.now }
+    requires { IsMeasurable z.now }
     ensures ok { IfOk result (λ values. values.items ≡ map (λ call. call_value call.func call.arg z.now) calls.now) }
     ensures in_range { OnOk result (first_not_bigint (sums_of calls.now z.now) ≡ None) }
     ensures outside { (sum : ℤ) → result ≡ Err (OpFault.Value sum) → first_not_bigint (sums_of calls.now z.now) ≡ Some sum }
@@ -197,7 +197,7 @@ fn call_values(alloc: Global, calls: &[Call], z: &ZSet) -> Result<Vec<Value>, Op
 
 // The value of a call over the rows of a group, or its SUM where that is outside the range of BIGINT.
 fn value_of_call(alloc: Global, call: &Call, z: &ZSet) -> Result<Value, OpFault>
-    requires { IsGroup z.now }
+    requires { IsMeasurable z.now }
     ensures ok { IfOk result (λ value. value ≡ call_value call.now.func call.now.arg z.now) }
     ensures in_range { OnOk result (first_not_bigint (tested_sum call.now.func call.now.arg z.now) ≡ None) }
     ensures outside { (sum : ℤ) → result ≡ Err (OpFault.Value sum) → first_not_bigint (tested_sum call.now.func call.now.arg z.now) ≡ Some sum }
@@ -213,7 +213,7 @@ fn value_of_call(alloc: Global, call: &Call, z: &ZSet) -> Result<Value, OpFault>
 
 // The SUM of a column, NULL where it has no value.
 fn sum_value(z: &ZSet, column: u32) -> Result<Value, OpFault>
-    requires { IsGroup z.now }
+    requires { IsMeasurable z.now }
     ensures ok { IfOk result (λ value. value ≡ call_value Sum column z.now) }
     ensures in_range { OnOk result (first_not_bigint (tested_sum Sum column z.now) ≡ None) }
     ensures outside { (sum : ℤ) → result ≡ Err (OpFault.Value sum) → first_not_bigint (tested_sum Sum column z.now) ≡ Some sum }

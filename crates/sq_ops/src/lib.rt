@@ -18,6 +18,8 @@ mod measure;
 #[cfg(test)]
 mod tests;
 mod whole;
+#[cfg(test)]
+mod whole_tests;
 
 pub use aggregate::{AggSpec, Call};
 pub use bilinear::{Bilinear, Pairing};
@@ -25,4 +27,5 @@ pub use count::count_rows;
 pub use fault::OpFault;
 pub use index::Index;
 pub use linear::{Keep, Linear, Pad, Project};
+pub use measure::{count_of, sum_of, total_of};
 pub use whole::{Distinct, Whole, WholeFault};

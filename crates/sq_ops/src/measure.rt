@@ -1,9 +1,9 @@
-ghost use Rattle.std.specs.Prelude.{◌≡◌, ◌≤◌, ◌^◌, ◌*ℤ◌, ◌≤ℤ◌, pos, unsigned_abs};
+ghost use Rattle.std.specs.Prelude.{◌≡◌, ◌≤◌, ◌^◌, ◌*ℤ◌, unsigned_abs};
 ghost use Rattle.sq_algebra.specs.Groups.{integers};
 ghost use Rattle.sq_algebra.specs.Operators.{lin};
 ghost use Rattle.sq_algebra.specs.ZSet.{total};
 ghost use Rattle.sq_ops.specs.Aggregates.{count_in, number_at, sum_in};
-ghost use Rattle.sq_ops.specs.Measures.{HasBigints, IsGroup, factor_of};
+ghost use Rattle.sq_ops.specs.Measures.{IsMeasurable, factor_of};
 
 use crate::columns::is_null_at;
 use sq_value::{Row, Value};
@@ -18,25 +18,25 @@ pub enum Measure {
     Numbers,
 }
 
-/// How many rows there are.
+/// How many rows there are, each as often as its weight says. Takes no memory.
 pub fn total_of(z: &ZSet) -> i64
-    requires { IsGroup z.now }
+    requires { IsMeasurable z.now }
     ensures { result ≡ total z.now }
 {
     z.total() as i64
 }
 
-/// How many rows have a value in the column.
+/// How many rows have a value in the column. Takes no memory.
 pub fn count_of(z: &ZSet, column: u32) -> i64
-    requires { IsGroup z.now }
+    requires { IsMeasurable z.now }
     ensures { result ≡ count_in column z.now }
 {
     measured(z, Measure::Values, column) as i64
 }
 
-/// The sum of the numbers in the column.
+/// The sum of the numbers in the column. Takes no memory.
 pub fn sum_of(z: &ZSet, column: u32) -> i128
-    requires { IsGroup z.now }
+    requires { IsMeasurable z.now }
     ensures { result ≡ sum_in column z.now }
 {
     measured(z, Measure::Numbers, column)
@@ -44,7 +44,7 @@ pub fn sum_of(z: &ZSet, column: u32) -> i128
 
 // What all rows count for, each as often as its weight says.
 fn measured(z: &ZSet, measure: Measure, column: u32) -> i128
-    requires { IsGroup z.now }
+    requires { IsMeasurable z.now }
     ensures { result ≡ lin integers (factor_of measure column) z.now }
 {
     let mut sum: i128 = 0;

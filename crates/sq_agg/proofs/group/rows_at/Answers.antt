@@ -1,4 +1,4 @@
-use Rattle.std.proofs.Common.{◌≡◌, ◌∙◌, ap, Err, refl}
+use Rattle.std.proofs.Common.{◌≡◌, ◌∙◌, ap, Err}
 use Rattle.sq_zset.specs.declared.pair.ZFault.TheVariants.{Weight}
 use Rattle.sq_agg.proofs.Keys.{group_made, group_never_outside, group_weighs}
 use Rattle.sq_agg.proofs.group.rows_at.Goals as goal

@@ -1,4 +1,4 @@
-use Rattle.std.proofs.Common.{◌≡◌, refl, Err}
+use Rattle.std.proofs.Common.{◌≡◌, Err}
 use Rattle.std.proofs.lemmas.Option.{slice_get-get_or}
 use Rattle.sq_expr.specs.declared.expr.Func.TheVariants.{CountAll}
 use Rattle.std.proofs.lemmas.Result.{err_from_is_err_and}

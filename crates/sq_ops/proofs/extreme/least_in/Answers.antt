@@ -1,6 +1,5 @@
-use Rattle.std.proofs.Common.{◌≡◌, ◌∙◌, ap, ap₂, sym, map, take}
+use Rattle.std.proofs.Common.{◌∙◌, ap₂, sym}
 use Rattle.sq_algebra.specs.ZSet.{entries}
-use Rattle.sq_expr.specs.Meaning.{column_of}
 use Rattle.sq_ops.specs.Aggregates.{lesser}
 use Rattle.sq_value.specs.declared.value.Value.TheVariants.{Null}
 use Rattle.sq_ops.proofs.Folding.{folded_more}

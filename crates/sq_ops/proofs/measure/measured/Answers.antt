@@ -1,4 +1,4 @@
-use Rattle.std.proofs.Common.{◌≡◌, ◌∙◌, ◌≤◌, ◌^◌, ◌+ℤ◌, ◌*ℤ◌, ap, sym, subst, lit≤, length, rules, take, take_all, to_z, of_z}
+use Rattle.std.proofs.Common.{◌≡◌, ◌∙◌, ◌≤◌, ◌^◌, ◌+ℤ◌, ◌*ℤ◌, ap, sym, subst, lit≤, length, rules, take_all, to_z, of_z}
 use mir.Syntax.{w128}
 use Rattle.std.specs.Prelude.{FitsSigned}
 use Rattle.sq_algebra.specs.ZSet.{entries}

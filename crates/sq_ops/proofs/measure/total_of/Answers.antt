@@ -1,16 +1,13 @@
-use Rattle.std.proofs.Common.{◌≡◌, ◌∙◌, ◌≤◌, ◌^◌, ap, sym, subst, lit≤, to_z, of_z, unsigned_abs}
-use mir.Syntax.{w64, w128}
-use Rattle.std.specs.Prelude.{FitsSigned}
-use Rattle.sq_algebra.specs.ZSet.{total}
+use Rattle.std.proofs.Common.{◌∙◌, ◌≤◌, ◌^◌, sym, subst, unsigned_abs}
 use Rattle.sq_ops.proofs.Measuring.{back_64, fits_64, total_bound}
 use Rattle.sq_ops.proofs.measure.total_of.Goals as goal
 
 pub overflow_cast-result : goal.overflow_cast-result
 overflow_cast-result c =
-    let bound : unsigned_abs c.total.result ≤ 2 ^ 61 = subst (λ n. unsigned_abs n ≤ 2 ^ 61) (sym c.total.ensures) (total_bound c.args.z.now c.requires) in
+    let bound : unsigned_abs c.total.result ≤ 2 ^ 62 = subst (λ n. unsigned_abs n ≤ 2 ^ 62) (sym c.total.ensures) (total_bound c.args.z.now c.requires) in
     fits_64 c.total.result bound
 
 pub returns : goal.returns
 returns c =
-    let bound : unsigned_abs c.total.result ≤ 2 ^ 61 = subst (λ n. unsigned_abs n ≤ 2 ^ 61) (sym c.total.ensures) (total_bound c.args.z.now c.requires) in
+    let bound : unsigned_abs c.total.result ≤ 2 ^ 62 = subst (λ n. unsigned_abs n ≤ 2 ^ 62) (sym c.total.ensures) (total_bound c.args.z.now c.requires) in
     back_64 c.total.result bound ∙ c.total.ensures

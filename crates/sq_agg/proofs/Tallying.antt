@@ -1,0 +1,32 @@
+-- The counts and sums of calls over few rows lie in their ranges.
+use Rattle.std.proofs.Common.{ℕ, ◌^◌, ◌<◌, ◌≤◌, List, [], ◌∷◌, map, unsigned_abs, lit≤, arith}
+use Rattle.std.specs.List.{AllByRecursion}
+use Rattle.sq_value.specs.declared.value.Value.{Value}
+use Rattle.sq_value.specs.Order.{row_cmp}
+use Rattle.sq_algebra.specs.ZSet.{ZSet}
+use Rattle.sq_expr.specs.declared.expr.Func.{Func}
+use Rattle.sq_expr.specs.declared.expr.Func.TheVariants.{CountAll, Count, Sum, Min, Max}
+use Rattle.sq_ops.specs.declared.aggregate.Call.{Call}
+use Rattle.sq_ops.specs.Measures.{IsMeasurable}
+use Rattle.sq_ops.proofs.Measuring.{count_bound, numbers_bound, total_bound}
+use Rattle.sq_agg.specs.Accumulators.{call_count, call_sum, call_tally}
+use Rattle.sq_agg.specs.Tallies.{IsWithin}
+
+module _ (z : ZSet (List Value) row_cmp) (measurable : IsMeasurable z) where
+  count_within : (f : Func) (column : ℕ) → unsigned_abs (call_count f column z) ≤ 2 ^ 62
+  count_within CountAll column = total_bound z measurable
+  count_within Count column = count_bound z measurable column
+  count_within Sum column = count_bound z measurable column
+  count_within Min column = count_bound z measurable column
+  count_within Max column = count_bound z measurable column
+
+  sum_within : (f : Func) (column : ℕ) → unsigned_abs (call_sum f column z) < 2 ^ 126
+  sum_within CountAll column = lit≤ tt
+  sum_within Count column = lit≤ tt
+  sum_within Sum column = let bound = numbers_bound z measurable column in omega arith
+  sum_within Min column = lit≤ tt
+  sum_within Max column = lit≤ tt
+
+  pub all_tallies_within : (calls : List Call) → AllByRecursion IsWithin (map (call_tally z) calls)
+  all_tallies_within [] = tt
+  all_tallies_within (call ∷ calls) = (record { count = count_within call.func call.arg; sum = sum_within call.func call.arg }, all_tallies_within calls)

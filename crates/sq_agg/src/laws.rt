@@ -1,0 +1,31 @@
+//! What holds of accumulators, each as the contract of a function that does nothing.
+ghost use Rattle.std.specs.Prelude.{◌≡◌, ℕ, List, slice_get, Some};
+ghost use Rattle.std.specs.Ordering.{nat_cmp};
+ghost use Rattle.sq_agg.specs.Accumulators.{accumulated, call_count, call_sum, count_place, sum_place};
+ghost use Rattle.sq_algebra.specs.Groups.{IsAdditive, z_sets};
+ghost use Rattle.sq_algebra.specs.ZSet.{ZSet, total, weight, zero};
+ghost use Rattle.sq_ops.specs.declared.aggregate.Call.{Call as Calling};
+ghost use Rattle.sq_value.specs.declared.value.Value.{Value as Datum};
+ghost use Rattle.sq_value.specs.Order.{row_cmp};
+
+use crate::Acc;
+
+/// The accumulator of the rows of two Z-sets is the sum of theirs, and that of no rows is zero.
+pub fn accumulators_add_up()
+    ensures sums { (calls : List Calling) → IsAdditive (z_sets row_cmp) (z_sets nat_cmp) (accumulated calls) }
+    ensures none { (calls : List Calling) → accumulated calls (zero row_cmp) ≡ zero nat_cmp }
+{}
+
+/// In the accumulator of the rows of a group stand how many there are, and the count and the sum of each call.
+pub fn accumulators_hold_their_numbers()
+    ensures rows { (calls : List Calling) (z : ZSet (List Datum) row_cmp) → weight 0 (accumulated calls z) ≡ total z }
+    ensures counts { (calls : List Calling) (z : ZSet (List Datum) row_cmp) (i : ℕ) (call : Calling) → slice_get calls i ≡ Some call → weight (count_place i) (accumulated calls z) ≡ call_count call.func call.arg z }
+    ensures sums { (calls : List Calling) (z : ZSet (List Datum) row_cmp) (i : ℕ) (call : Calling) → slice_get calls i ≡ Some call → weight (sum_place i) (accumulated calls z) ≡ call_sum call.func call.arg z }
+{}
+
+fn is_send_and_sync<T: Send + Sync>() {}
+
+// The accumulators may be handed to another thread, and be shared.
+fn data_crosses_threads() {
+    is_send_and_sync::<Acc>();
+}
