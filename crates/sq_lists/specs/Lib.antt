@@ -1,0 +1,8 @@
+pub mod Listings
+pub mod Stops
+pub mod Values
+pub mod Stages
+pub mod BlockFits
+pub mod Shown
+pub mod Walks
+pub mod Answers

@@ -1,0 +1,44 @@
+ghost use Rattle.std.specs.Prelude.{◌≡◌};
+
+use sq_value::NoMemory;
+use std::alloc::{AllocError, AllocFailed};
+
+/// Why the views of a program are not listed.
+#[derive(Clone, Copy, Debug, PartialEq, Eq)]
+pub enum ViewsStop {
+    /// The view with this number, counted from 0 among the views, is the first that has a place of more than 2^61 rows or a
+    /// tested number outside BIGINT.
+    Range { view: u32 },
+    /// Memory ran out.
+    Memory,
+}
+
+impl From<NoMemory> for ViewsStop {
+    ghost use Rattle.sq_lists.specs.declared.refusal.ViewsStop.TheVariants.{Memory};
+
+    ghost from_gives = { λ _ e. e ≡ Memory };
+
+    fn from(_: NoMemory) -> ViewsStop {
+        ViewsStop::Memory
+    }
+}
+
+impl From<AllocError> for ViewsStop {
+    ghost use Rattle.sq_lists.specs.declared.refusal.ViewsStop.TheVariants.{Memory};
+
+    ghost from_gives = { λ _ e. e ≡ Memory };
+
+    fn from(_: AllocError) -> ViewsStop {
+        ViewsStop::Memory
+    }
+}
+
+impl<T: Drop> From<AllocFailed<T>> for ViewsStop {
+    ghost use Rattle.sq_lists.specs.declared.refusal.ViewsStop.TheVariants.{Memory};
+
+    ghost from_gives = { λ _ e. e ≡ Memory };
+
+    fn from(_: AllocFailed<T>) -> ViewsStop {
+        ViewsStop::Memory
+    }
+}
