@@ -1,0 +1,4 @@
+mod JsonOf
+mod Members
+mod TableLemmas
+pub mod FitLemmas
