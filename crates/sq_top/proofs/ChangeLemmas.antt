@@ -1,6 +1,6 @@
 -- The difference between two lists of rows, as a Z-set of the program.
 use Rattle.std.specs.Prelude.{◌-ℤ◌, ℤ, pos, map, unsigned_abs}
-use Rattle.std.proofs.Common.{◌≡◌, ℕ, ◌+◌, ◌^◌, ◌≤◌, List, [], ◌∷◌, ◌++◌, length, take, true, Some, None, refl, sym, ap, ap₂, ◌∙◌, arith, append-nil}
+use Rattle.std.proofs.Common.{◌≡◌, ℕ, ◌+◌, ◌^◌, ◌≤◌, List, [], ◌∷◌, ◌++◌, length, take, Bool, true, Some, None, refl, sym, ap, ap₂, ◌∙◌, arith, append-nil}
 use Rattle.std.specs.List.{flat_map}
 use Rattle.std.specs.Ordering.{is_eq}
 use Rattle.std.proofs.lemmas.Grind.{flat_map-append}
@@ -19,8 +19,10 @@ use Rattle.sq_algebra.specs.ZSet.{ZSet, entries, from_pairs, of_list, minus}
 use Rattle.sq_algebra.proofs.Changes.{entries_change}
 use Rattle.sq_algebra.proofs.Weights.{weight-of_list, weight-minus, same_weights}
 use Rattle.sq_zset.specs.Range.{is_in_range, first_outside_in, first_outside}
-use Rattle.sq_top.specs.Ticks.{Row}
-use Rattle.sq_top.specs.Texts.{rise, rise_text}
+use Rattle.sq_catalog.specs.declared.relation.Relation.{Relation}
+use Rattle.sq_typed.specs.From.{Row}
+use Rattle.sq_top.specs.Relations.{is_printed}
+use Rattle.sq_top.specs.Texts.{rise, rise_text, view_text}
 
 -- a list counted is its difference from no rows
 of_list_from_none : (rows : List Row) → of_list row_cmp rows ≡ minus (of_list row_cmp rows) (of_list row_cmp [])
@@ -62,10 +64,10 @@ text_more f es i e at =
     sym (ap (flat_map f) (take_more es i e (slice_get_within es i e at) ∙ ap (λ x. take i es ++ x ∷ []) (get_or_from_slice_get es i e e at))
     ∙ flat_map-append f (take i es) (e ∷ []) ∙ ap (λ t. flat_map f (take i es) ++ t) (append-nil (f e)))
 
-pub text_of_change : (before now : List Row) (es : List (Row × ℤ)) → es ≡ map (λ r. (r, rise before now r)) (changed row_cmp before now)
-    → flat_map (λ (e : Row × ℤ). rise_text e.0 e.1) es ≡ flat_map (λ r. rise_text r (rise before now r)) (changed row_cmp before now)
-text_of_change before now es e =
-    ap (flat_map (λ (e : Row × ℤ). rise_text e.0 e.1)) e ∙ flat_map-map (λ (e : Row × ℤ). rise_text e.0 e.1) (λ r. (r, rise before now r)) (changed row_cmp before now)
+pub text_of_change : (view : Relation) (before now : List Row) (es : List (Row × ℤ)) → es ≡ map (λ r. (r, rise before now r)) (changed row_cmp before now)
+    → flat_map (λ (e : Row × ℤ). rise_text view e.0 e.1) es ≡ flat_map (λ r. rise_text view r (rise before now r)) (changed row_cmp before now)
+text_of_change view before now es e =
+    ap (flat_map (λ (e : Row × ℤ). rise_text view e.0 e.1)) e ∙ flat_map-map (λ (e : Row × ℤ). rise_text view e.0 e.1) (λ r. (r, rise before now r)) (changed row_cmp before now)
 
 -- pairs of weight 1 add up to the counts of their rows
 pub counted : (pairs : List (Row × ℤ)) (rows : List Row) → pairs ≡ map (λ r. (r, pos 1)) rows → from_pairs row_cmp pairs ≡ of_list row_cmp rows
@@ -87,3 +89,11 @@ pub change_entries : (old new change : ZSet Row row_cmp) (before now : List Row)
     → change ≡ minus new old → entries change ≡ map (λ r. (r, rise before now r)) (changed row_cmp before now)
 change_entries old new change before now e f g =
     ap entries (g ∙ ap₂ minus f e) ∙ entries_change row_cmp row_cmp-total row_cmp-antisymmetric before now
+
+-- the change of a view that is printed
+pub view_text_of : (view : Relation) (before now : List Row) (es : List (Row × ℤ)) (b : Bool) → b ≡ is_printed view.kind → b ≡ true
+    → es ≡ map (λ r. (r, rise before now r)) (changed row_cmp before now)
+    → flat_map (λ (e : Row × ℤ). rise_text view e.0 e.1) es ≡ view_text view before now
+view_text_of view before now es b is printed e =
+    let yes_printed : is_printed view.kind ≡ true = sym is ∙ printed in
+    text_of_change view before now es e ∙ (rw yes_printed refl)

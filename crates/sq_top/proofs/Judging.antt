@@ -1,5 +1,5 @@
 -- The judgement of a program, from its tokens up to its input.
-use Rattle.std.proofs.Common.{◌≡◌, ◌↔◌, ℕ, List, Bool, true, false, refl, subst, ◌<◌, ◌≤◌, length}
+use Rattle.std.proofs.Common.{◌≡◌, ◌↔◌, ℕ, List, Bool, true, false, refl, sym, ap, ◌∙◌, subst, ◌<◌, ◌≤◌, length}
 use Rattle.std.specs.Prelude.{IsTrue}
 use Rattle.std.specs.Str.{IsUtf8}
 use Rattle.sq_token.specs.declared.token.Token.{Token}
@@ -15,13 +15,24 @@ use Rattle.sq_top.specs.declared.judge.JudgeStop.TheVariants.{Fault, Memory}
 use Rattle.sq_ast.specs.declared.statement.Statement.{Statement}
 use Rattle.sq_ast.specs.Spelling.{Spells}
 use Rattle.sq_top.specs.declared.program_fault.ProgramFault.TheVariants.{TextTooLong}
-use Rattle.std.specs.Prelude.{Some}
+use Rattle.std.specs.Prelude.{Some, None}
+use Rattle.std.proofs.Common.{Vec, Global}
 use Rattle.sq_check.specs.declared.program.CheckFault.{CheckFault}
 use Rattle.sq_check.specs.declared.program.CheckFault.TheVariants as checking
 use Rattle.sq_typed.specs.Faults.{refused}
 use Rattle.sq_typed.specs.declared.check_kind.CheckKind.{CheckKind}
+use Rattle.sq_lists.specs.Shown.{shown}
+use Rattle.sq_typed.specs.Fit.{TablesAreOfKinds}
+use Rattle.sq_typed.specs.From.{Row}
+use Rattle.sq_typed.specs.Programs.{Typed}
+use Rattle.sq_typed.specs.Tables.{Tables}
+use Rattle.sq_typed.specs.Views.{Meant}
+use Rattle.sq_top.proofs.TableLemmas.{kinds_empty}
+use Rattle.sq_top.specs.Judgements.{IsJudged, RangeStop, Starts}
+use Rattle.sq_top.specs.Relations.{empty_tables}
+use Rattle.sq_top.specs.declared.judge.Judged.{Judged}
 use Rattle.sq_top.specs.Lines.{lines_of, has_end_line, text_before_end}
-use Rattle.sq_top.specs.Programs.{longest_text, IsText, StatementsFault, TokensFault, TextFault, HasFault, StatementsStop, TokensStop, TextStops, Stops, check_stop, lex_stop, parse_stop}
+use Rattle.sq_top.specs.Programs.{longest_text, empty_verdict, IsText, Mean, StatementsFault, TokensFault, TextFault, HasFault, StatementsStop, TokensStop, TextStops, Stops, check_stop, lex_stop, parse_stop}
 
 pub parse_stops : (tokens : List Token) (fault : ParseFault) → parse.HasCause tokens fault → TokensStop tokens (parse_stop fault)
 parse_stops tokens (parsing.NotGrammar n) cause = TokensFault.not_grammar cause
@@ -65,3 +76,26 @@ text_too_long input text ended before long = HasFault.text_too_long ended (subst
 
 pub is_text : (input text : List ℕ) → has_end_line (lines_of input) ≡ true → text ≡ text_before_end (lines_of input) → length text ≤ longest_text → IsText input text
 is_text input text ended before short = record { ended = ended; before = before; short = short }
+
+-- ---- the program of statements
+
+-- statements that mean an accepted program
+pub judged_mean : (statements : List Statement) (p : Meant) (j : Judged) → refused statements ≡ None → Typed statements p → IsJudged p j → Mean statements j.program
+judged_mean statements p j none typed is = record {
+  without_fault = none;
+  typed = is.program ∙ typed;
+  in_range = subst (λ q. empty_verdict q ≡ None) (sym is.program) is.in_range;
+}
+
+-- statements that mean a program whose views are out of range
+pub range_stops : (statements : List Statement) (p : Meant) (stop : JudgeStop) → refused statements ≡ None → Typed statements p → RangeStop p stop → StatementsStop statements stop
+range_stops statements p (Fault fault) none typed w = subst (StatementsFault statements) (sym w.2) (StatementsFault.range p none typed w.1)
+range_stops statements p Memory none typed w = tt
+
+pub starts : (p : Meant) (tables shown_now : Vec (List Row) Global) (seen : Tables) → seen ≡ tables.items → tables.items ≡ empty_tables p.catalog
+    → shown_now.items ≡ shown p seen → Starts (record { program = p; tables = tables; shown = shown_now })
+starts p tables shown_now seen same empty is = record {
+  tables = empty;
+  kinds = subst (λ ts. TablesAreOfKinds ts p.catalog) (sym empty) (kinds_empty p.catalog);
+  shown = is ∙ ap (shown p) same;
+}

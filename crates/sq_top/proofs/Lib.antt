@@ -1,5 +1,3 @@
-mod Members
-mod JsonOf
 mod Places
 mod LineLemmas
 mod RowLemmas
@@ -9,4 +7,8 @@ mod Reading
 mod ChangeLemmas
 mod SumLemmas
 mod Judging
-mod Pieces
+mod TableLemmas
+mod RelationLemmas
+mod ProgramLemmas
+mod UpdateLemmas
+mod CommaLemmas

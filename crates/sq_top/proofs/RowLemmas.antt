@@ -6,7 +6,8 @@ use Rattle.std.specs.Ordering.{is_eq}
 use Rattle.std.proofs.lemmas.List.Quantifiers.{position-Some}
 use Rattle.sq_top.proofs.Places.{position-None}
 use Rattle.sq_value.specs.Order.{row_cmp}
-use Rattle.sq_top.specs.Ticks.{Row, removed}
+use Rattle.sq_typed.specs.From.{Row}
+use Rattle.sq_typed.specs.Tables.{removed}
 
 abbrev same : Row → Row → Bool
 same row r = is_eq (row_cmp row r)

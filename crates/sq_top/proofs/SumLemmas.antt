@@ -1,20 +1,21 @@
 -- The changes that were printed add up.
-use Rattle.std.specs.Prelude.{◌-ℤ◌, ◌+ℤ◌, ℤ, pos, map, if◌then◌else◌}
-use Rattle.std.proofs.Common.{◌≡◌, ℕ, zero, suc, List, [], ◌∷◌, take, Bool, true, false, refl, sym, arith}
-use Rattle.std.specs.List.{list_all, enumerate_from}
+use Rattle.std.specs.Prelude.{◌-ℤ◌, ◌+ℤ◌, ℤ, pos, if◌then◌else◌}
+use Rattle.std.proofs.Common.{◌≡◌, ℕ, zero, suc, ◌+◌, List, [], ◌∷◌, take, Bool, true, false, refl, sym, ap, ◌∙◌, subst, arith}
+use Rattle.std.specs.List.{list_all}
 use borrow.Author.Differences.{ints}
+use Rattle.sq_lines.specs.Lines.{is_blank}
+use Rattle.sq_lines.specs.declared.line.Line.{Line}
+use Rattle.sq_lists.specs.Shown.{shown}
+use Rattle.sq_typed.specs.From.{Row}
+use Rattle.sq_typed.specs.Laws.{rows_in}
+use Rattle.sq_typed.specs.Tables.{Tables}
+use Rattle.sq_typed.specs.Views.{Meant}
 use Rattle.sq_value.specs.Count.{count}
 use Rattle.sq_top.specs.declared.refusal.Refusal.TheVariants.{Unfinished}
-use Rattle.sq_top.specs.ChangeLines.{decoded}
-use Rattle.sq_top.specs.Ticks.{Row, Numbered, Outcome, accepted, refused, outcome, rows_after, is_blank, ticks_of, reports_from}
 use Rattle.sq_top.specs.Output.{reports}
-use Rattle.sq_top.specs.Sums.{printed, printed_sum, rows_now}
-
-one : (row : Row) (rows : List Row) (o : Outcome) → printed row rows o ≡ pos (count row (rows_after rows o)) -ℤ pos (count row rows)
-one row rows (accepted now) = refl
-one row rows (refused why) = sym (none (count row rows)) where
-  none : (n : ℕ) → pos n -ℤ pos n ≡ pos 0
-  none n = omega (arith, ints)
+use Rattle.sq_top.specs.Relations.{empty_tables}
+use Rattle.sq_top.specs.Sums.{printed, printed_sum, tables_now}
+use Rattle.sq_top.specs.Ticks.{Report, Outcome, accepted, refused, outcome, tables_after, lines_from, ticks_of, reports_from}
 
 chain : (p s : ℤ) (a b c : ℕ) → p ≡ pos b -ℤ pos a → s ≡ pos c -ℤ pos b → p +ℤ s ≡ pos c -ℤ pos a
 chain p s a b c e f = omega (arith, ints)
@@ -25,26 +26,45 @@ none_from n = omega (arith, ints)
 added_none : (n : ℕ) → pos 0 +ℤ pos 0 ≡ pos n -ℤ pos n
 added_none n = omega (arith, ints)
 
-less_none : (s : ℤ) (n : ℕ) → s ≡ pos n -ℤ pos 0 → (pos 0 -ℤ pos 0) +ℤ s ≡ pos n
-less_none s n e = omega (arith, ints)
+first_added : (s : ℤ) (n c : ℕ) → s ≡ pos c -ℤ pos n → (pos n -ℤ pos 0) +ℤ s ≡ pos c
+first_added s n c e = omega (arith, ints)
 
--- the lines after the last commit line change nothing
-sum_last : (row : Row) (rows : List Row) (k : ℕ) (b : Bool) → let last = take {A = List Row × Outcome} (suc k) (if b then [] else (rows, refused Unfinished) ∷ []) in
-    printed_sum row last ≡ pos (count row (rows_now rows last)) -ℤ pos (count row rows)
-sum_last row rows k true = none_from (count row rows)
-sum_last row rows zero false = added_none (count row rows)
-sum_last row rows (suc k) false = added_none (count row rows)
+module _ (p : Meant) (view : ℕ) (row : Row) where
+  -- how often the view holds the row over these tables
+  abbrev held : Tables → ℕ
+  held tables = count row (rows_in (shown p tables) view)
 
--- from some rows on, the sum is how much the count of the row rose
-sum_from : (row : Row) (rows : List Row) (ticks : List (List Numbered)) (k : ℕ)
-    → printed_sum row (take k (reports_from rows ticks)) ≡ pos (count row (rows_now rows (take k (reports_from rows ticks)))) -ℤ pos (count row rows)
-sum_from row rows ticks zero = none_from (count row rows)
-sum_from row rows [] (suc k) = none_from (count row rows)
-sum_from row rows (last ∷ []) (suc k) = sum_last row rows k (list_all (λ (l : Numbered). is_blank l.1) last)
-sum_from row rows (tick ∷ next ∷ ticks) (suc k) =
-    chain _ _ (count row rows) (count row (rows_after rows (outcome rows tick))) _ (one row rows (outcome rows tick))
-    (sum_from row (rows_after rows (outcome rows tick)) (next ∷ ticks) k)
+  one : (tables : Tables) (o : Outcome) → printed p view row (shown p tables) o ≡ pos (held (tables_after tables o)) -ℤ pos (held tables)
+  one tables (accepted now) = refl
+  one tables (refused why) = none_from (held tables)
 
-pub changes_add_up : (lines : List (List ℕ)) (k : ℕ) (row : Row) → printed_sum row (take k (reports lines)) ≡ pos (count row (rows_now [] (take k (reports lines))))
-changes_add_up lines zero row = refl
-changes_add_up lines (suc k) row = less_none _ _ (sum_from row [] (ticks_of (enumerate_from 1 (map decoded lines))) k)
+  -- the lines after the last commit line change nothing
+  sum_last : (tables : Tables) (k : ℕ) (b : Bool) → let last = take {A = Report} k (if b then [] else (shown p tables, refused Unfinished) ∷ []) in
+      printed_sum p view row last ≡ pos (held (tables_now tables last)) -ℤ pos (held tables)
+  sum_last tables zero true = none_from (held tables)
+  sum_last tables (suc k) true = none_from (held tables)
+  sum_last tables zero false = none_from (held tables)
+  sum_last tables (suc zero) false = added_none (held tables)
+  sum_last tables (suc (suc k)) false = added_none (held tables)
+
+  -- from some tables on, the sum is how much the count of the row rose
+  sum_from : (tables : Tables) (ticks : List (List Line)) (k : ℕ)
+      → printed_sum p view row (take k (reports_from p tables ticks)) ≡ pos (held (tables_now tables (take k (reports_from p tables ticks)))) -ℤ pos (held tables)
+  sum_from tables ticks zero = none_from (held tables)
+  sum_from tables [] (suc k) = none_from (held tables)
+  sum_from tables (last ∷ []) (suc k) = sum_last tables (suc k) (list_all is_blank last)
+  sum_from tables (tick ∷ next ∷ ticks) (suc k) =
+      chain _ _ (held tables) (held (tables_after tables (outcome p tables tick))) _ (one tables (outcome p tables tick))
+      (sum_from (tables_after tables (outcome p tables tick)) (next ∷ ticks) k)
+
+  add_up : (lines : List (List ℕ)) (k : ℕ) → printed_sum p view row (take (suc k) (reports p lines))
+      ≡ pos (held (tables_now (empty_tables p.catalog) (take (suc k) (reports p lines))))
+  add_up lines k = first_added _ (held (empty_tables p.catalog)) _ (sum_from (empty_tables p.catalog) (ticks_of (lines_from p.catalog 1 lines)) k)
+
+pub changes_add_up : (p : Meant) (lines : List (List ℕ)) (k view : ℕ) (row : Row)
+    → printed_sum p view row (take (k + 1) (reports p lines))
+    ≡ pos (count row (rows_in (shown p (tables_now (empty_tables p.catalog) (take (k + 1) (reports p lines)))) view))
+changes_add_up p lines k view row =
+    let next : suc k ≡ k + 1 = omega arith in
+    subst (λ n. printed_sum p view row (take n (reports p lines)) ≡ pos (held p view row (tables_now (empty_tables p.catalog) (take n (reports p lines))))) next
+    (add_up p view row lines k)

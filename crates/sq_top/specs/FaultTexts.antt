@@ -1,22 +1,27 @@
 -- The line that tells of a program's fault.
 use Rattle.std.specs.Prelude.{ℕ, List, [], ◌++◌, codes, decimal}
+use Rattle.json.specs.Print.{quoted}
 use Rattle.sq_token.specs.declared.fault.LexFault.TheVariants as lex
 use Rattle.sq_parse.specs.declared.fault.ParseFault.TheVariants as parse
 use Rattle.sq_top.specs.declared.program_fault.ProgramFault.{ProgramFault}
-use Rattle.sq_top.specs.declared.program_fault.ProgramFault.TheVariants.{TextTooLong, NoEnd, NotUtf8, Lex, Parse, Check, NotBuilt}
+use Rattle.sq_top.specs.declared.program_fault.ProgramFault.TheVariants.{TextTooLong, NoEnd, NotUtf8, Lex, Parse, Check, Range}
 use Rattle.sq_typed.specs.declared.check_kind.CheckKind.{CheckKind}
 use Rattle.sq_typed.specs.declared.check_kind.CheckKind.TheVariants as check
 
 abbrev pub plain_fault : List ℕ → List ℕ
 plain_fault cause = codes "{\"program\":\"" ++ (cause ++ codes "\"}\n")
 
+-- a fault with a number, which stands in this member
+abbrev pub numbered_fault : List ℕ → List ℕ → ℕ → List ℕ
+numbered_fault cause name number = codes "{\"program\":\"" ++ (cause ++ (codes "\",\"" ++ (name ++ (codes "\":" ++ (decimal number ++ codes "}\n")))))
+
 -- a fault at a place of the text, which is a number of bytes
 abbrev pub placed_fault : List ℕ → ℕ → List ℕ
-placed_fault cause at = codes "{\"program\":\"" ++ (cause ++ (codes "\",\"at\":" ++ (decimal at ++ codes "}\n")))
+placed_fault cause at = numbered_fault cause (codes "at") at
 
 -- a fault of a statement
 abbrev pub statement_fault : List ℕ → ℕ → List ℕ
-statement_fault cause number = codes "{\"program\":\"" ++ (cause ++ (codes "\",\"statement\":" ++ (decimal number ++ codes "}\n")))
+statement_fault cause number = numbered_fault cause (codes "statement") number
 
 -- what a kind of fault of a statement is called
 abbrev pub kind_text : CheckKind → List ℕ
@@ -48,4 +53,4 @@ fault_text (Parse (parse.NotGrammar number)) = statement_fault (codes "not gramm
 fault_text (Parse (parse.TooDeep number)) = statement_fault (codes "too deep") number
 fault_text (Parse parse.Memory) = []
 fault_text (Check number kind) = statement_fault (kind_text kind) number
-fault_text NotBuilt = plain_fault (codes "not built")
+fault_text (Range view) = codes "{\"program\":\"range\",\"view\":" ++ (quoted view ++ codes "}\n")

@@ -1,10 +1,14 @@
 pub mod Lines
-pub mod ChangeLines
+pub mod Relations
+pub mod Fits
 pub mod Ticks
 pub mod Outcomes
+pub mod Commas
 pub mod Texts
 pub mod Output
+pub mod Updates
 pub mod Programs
+pub mod Judgements
 pub mod FaultTexts
 pub mod Runs
 pub mod Statuses

@@ -1,72 +1,32 @@
--- The program text of an input: its faults, and the one program that is built.
-use Rattle.std.specs.Prelude.{◌≡◌, ◌≢◌, ℕ, ◌<◌, ◌≤◌, true, false, List, [], ◌∷◌, length, Some, None, codes, ⊤}
+-- The program of an input, and its faults.
+use Rattle.std.specs.Prelude.{◌≡◌, ℕ, ◌<◌, ◌≤◌, true, false, List, length, Option, Some, None, ⊤}
 use Rattle.std.specs.Str.{IsUtf8}
 use Rattle.sq_token.specs.declared.token.Token.{Token}
 use Rattle.sq_token.specs.declared.fault.LexFault.{LexFault}
+use Rattle.sq_token.specs.declared.fault.LexFault.TheVariants as lexing
 use Rattle.sq_token.specs.Reading.{Tokens}
 use Rattle.sq_token.specs.Fault.{FirstFault}
 use Rattle.sq_ast.specs.declared.statement.Statement.{Statement}
-use Rattle.sq_ast.specs.declared.statement.ColumnTree.{ColumnTree}
-use Rattle.sq_ast.specs.declared.statement.Body.TheVariants as body
-use Rattle.sq_ast.specs.declared.query.JoinedTree.{JoinedTree}
-use Rattle.sq_ast.specs.declared.query.QueryTree.{QueryTree}
-use Rattle.sq_ast.specs.declared.query.QueryTree.TheVariants as query
-use Rattle.sq_ast.specs.declared.query.BlockTree.{BlockTree, roll-BlockTree}
-use Rattle.sq_ast.specs.declared.query.ItemTree.{ItemTree}
-use Rattle.sq_ast.specs.declared.statement.TypeName.TheVariants as type
-use Rattle.sq_ast.specs.declared.query.ItemTree.TheVariants as item
-use Rattle.sq_ast.specs.declared.query.JoinTree.TheVariants as join
-use Rattle.sq_ast.specs.declared.query.SourceTree.TheVariants as source
-use Rattle.sq_ast.specs.Trees.{joined}
 use Rattle.sq_ast.specs.Spelling.{Spells}
 use Rattle.sq_ast.specs.Refusal as refusal
-use Rattle.sq_check.specs.declared.program.CheckFault.{CheckFault}
-use Rattle.sq_check.specs.declared.program.CheckFault.TheVariants as checking
-use Rattle.sq_typed.specs.Faults.{refused}
-use Rattle.sq_typed.specs.declared.check_kind.CheckKind.{CheckKind}
 use Rattle.sq_parse.specs.declared.fault.ParseFault.{ParseFault}
 use Rattle.sq_parse.specs.declared.fault.ParseFault.TheVariants as parse
-use Rattle.sq_token.specs.declared.fault.LexFault.TheVariants as lexing
+use Rattle.sq_check.specs.declared.program.CheckFault.{CheckFault}
+use Rattle.sq_check.specs.declared.program.CheckFault.TheVariants as checking
+use Rattle.sq_typed.specs.declared.check_kind.CheckKind.{CheckKind}
+use Rattle.sq_typed.specs.Faults.{refused}
+use Rattle.sq_typed.specs.Programs.{Typed}
+use Rattle.sq_typed.specs.Views.{Meant, verdict}
 use Rattle.sq_top.specs.declared.judge.JudgeStop.{JudgeStop}
 use Rattle.sq_top.specs.declared.judge.JudgeStop.TheVariants.{Fault, Memory}
 use Rattle.sq_top.specs.declared.program_fault.ProgramFault.{ProgramFault}
 use Rattle.sq_top.specs.declared.program_fault.ProgramFault.TheVariants as faults
 use Rattle.sq_top.specs.Lines.{lines_of, has_end_line, text_before_end}
+use Rattle.sq_top.specs.Relations.{empty_tables, view_name}
 
 -- the most bytes that a program text may have
 abbrev pub longest_text : ℕ
 longest_text = 1048576
-
--- the one program that is built: CREATE TABLE t (a INTEGER); CREATE VIEW v AS SELECT * FROM t
-abbrev pub built_column : ColumnTree
-built_column = record { name = codes "a"; kind = type.Integer; not_null = false }
-
-abbrev pub built_columns : List ColumnTree
-built_columns = built_column ∷ []
-
-abbrev pub built_table : Statement
-built_table = record { number = 1; body = body.Table (codes "t") built_columns }
-
-abbrev pub built_items : List ItemTree
-built_items = item.Star ∷ []
-
-abbrev pub built_source : JoinedTree
-built_source = joined join.Comma (source.Relation (codes "t") None)
-
-abbrev pub built_sources : List JoinedTree
-built_sources = built_source ∷ []
-
-abbrev pub built_block : BlockTree
-built_block = roll-BlockTree (record { distinct = false; items = built_items; sources = built_sources; filter = None; group = []; having = None })
-
-abbrev pub built_query : QueryTree
-built_query = query.Block built_block
-
-abbrev pub built_view : Statement
-built_view = record { number = 2; body = body.View (codes "v") None built_query }
-
-abbrev pub built : List Statement
-built = built_table ∷ built_view ∷ []
 
 -- the program text of an input with an end line, if it is not too long
 pub record IsText (input text : List ℕ) : Type 0 where
@@ -74,17 +34,40 @@ pub record IsText (input text : List ℕ) : Type 0 where
   pub before : text ≡ text_before_end (lines_of input)
   pub short : length text ≤ longest_text
 
--- a text is the program that is built, however it is laid out
-pub record IsBuilt (text : List ℕ) : Type 0 where
+-- the first view that is out of range over empty tables, if there is one
+abbrev pub empty_verdict : Meant → Option ℕ
+empty_verdict p = verdict p (empty_tables p.catalog)
+
+-- statements without a fault mean this program, and its views are in range over empty tables
+pub record Mean (statements : List Statement) (p : Meant) : Type 0 where
+  pub without_fault : refused statements ≡ None
+  pub typed : Typed statements p
+  pub in_range : empty_verdict p ≡ None
+
+-- tokens spell statements that mean this program
+pub record SpellProgram (tokens : List Token) (p : Meant) : Type 0 where
+  pub statements : List Statement
+  pub spelled : Spells tokens statements
+  pub mean : Mean statements p
+
+-- a text in UTF-8 has tokens that spell this program
+pub record IsProgramText (text : List ℕ) (p : Meant) : Type 0 where
   pub tokens : List Token
   pub utf8 : IsUtf8 text
   pub lexed : Tokens text tokens
-  pub spelled : Spells tokens built
+  pub spelled : SpellProgram tokens p
+
+-- an input begins with the text of this program and its end line
+pub record IsProgram (input : List ℕ) (p : Meant) : Type 0 where
+  pub text : List ℕ
+  pub is_text : IsText input text
+  pub is_program : IsProgramText text p
 
 -- the first fault of statements that tokens spell
 pub data StatementsFault : List Statement → ProgramFault → Type 0 where
   check : {statements : List Statement} {n : ℕ} {kind : CheckKind} → refused statements ≡ Some (n, kind) → StatementsFault statements (faults.Check n kind)
-  not_built : {statements : List Statement} → refused statements ≡ None → statements ≢ built → StatementsFault statements faults.NotBuilt
+  range : {statements : List Statement} {view : ℕ} (p : Meant) → refused statements ≡ None → Typed statements p → empty_verdict p ≡ Some view
+      → StatementsFault statements (faults.Range (view_name p.catalog view))
 
 -- the first fault of a text in UTF-8 with these tokens
 pub data TokensFault : List Token → ProgramFault → Type 0 where
@@ -92,7 +75,7 @@ pub data TokensFault : List Token → ProgramFault → Type 0 where
   not_grammar : {tokens : List Token} {n : ℕ} → refusal.Refuses tokens (refusal.NotGrammar n) → TokensFault tokens (faults.Parse (parse.NotGrammar n))
   in_statements : {tokens : List Token} {fault : ProgramFault} (statements : List Statement) → Spells tokens statements → StatementsFault statements fault → TokensFault tokens fault
 
--- the first fault of a text: of its bytes, its tokens, its grammar or its statements, or that it is another program
+-- the first fault of a text: of its bytes, its tokens, its grammar or its statements
 pub data TextFault : List ℕ → ProgramFault → Type 0 where
   not_utf8 : {text : List ℕ} → ¬ (IsUtf8 text) → TextFault text faults.NotUtf8
   lex : {text : List ℕ} {fault : LexFault} → IsUtf8 text → FirstFault text fault → TextFault text (faults.Lex fault)
@@ -104,12 +87,6 @@ pub data HasFault : List ℕ → ProgramFault → Type 0 where
   no_end_too_long : {input : List ℕ} → has_end_line (lines_of input) ≡ false → longest_text < length input → HasFault input faults.TextTooLong
   no_end : {input : List ℕ} → has_end_line (lines_of input) ≡ false → length input ≤ longest_text → HasFault input faults.NoEnd
   in_text : {input text : List ℕ} {fault : ProgramFault} → IsText input text → TextFault text fault → HasFault input fault
-
--- an input begins with the program that is built and its end line
-pub record IsAccepted (input : List ℕ) : Type 0 where
-  pub text : List ℕ
-  pub is_text : IsText input text
-  pub is_built : IsBuilt text
 
 -- a judgement stopped: at a fault of the text, or for want of memory
 abbrev pub TextStops : List ℕ → JudgeStop → Type 0

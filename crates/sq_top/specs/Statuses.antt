@@ -1,10 +1,11 @@
 -- What each status of a run says of the objects that it was handed.
-use Rattle.std.specs.Prelude.{◌≡◌, ◌≢◌, ℕ, ◌<◌, ◌≤◌, List, [], length, take, true, false, Option, IfSome, ⊤, codes}
+use Rattle.std.specs.Prelude.{◌≡◌, ◌≢◌, ◌⊎◌, ℕ, ◌<◌, ◌≤◌, List, [], length, take, true, false, Option, IfSome, ⊤, codes}
 use Rattle.std.specs.Io.KnownBytes.{Appends, Keeps, IsAtEnd}
 use Rattle.sq_base.specs.Causes.{Rose}
 use Rattle.sq_top.specs.Lines.{lines_of, lines_after_end}
 use Rattle.sq_top.specs.Output.{has_refusal, output, reports, texts_from}
-use Rattle.sq_top.specs.Programs.{HasFault, IsAccepted}
+use Rattle.sq_typed.specs.Views.{Meant}
+use Rattle.sq_top.specs.Programs.{HasFault, IsProgram}
 use Rattle.sq_top.specs.FaultTexts.{fault_text}
 use Rattle.sq_top.specs.declared.program_fault.ProgramFault.{ProgramFault}
 use Rattle.sq_top.specs.declared.session.Ending.{Ending}
@@ -45,17 +46,30 @@ pub record Reads (limit : ℕ) (left now : Option (List ℕ)) (before after : �
 -- What a status says of the input.
 pub record Judges (left : Option (List ℕ)) (status : Status) : Type 0 where
   pub bad : status ≡ BadProgram → IfSome left (λ input. (fault : ProgramFault) × HasFault input fault)
-  pub written : status ≡ WriteFault → IfSome left IsAccepted
-  pub done : status ≡ Done → IfSome left (λ input. IsAccepted input × (has_refusal input ≡ false))
-  pub refusals : status ≡ DoneWithRefusals → IfSome left (λ input. IsAccepted input × (has_refusal input ≡ true))
+  pub written : status ≡ WriteFault → IfSome left (λ input. (p : Meant) × IsProgram input p)
+  pub done : status ≡ Done → IfSome left (λ input. (p : Meant) × IsProgram input p × (has_refusal p input ≡ false))
+  pub refusals : status ≡ DoneWithRefusals → IfSome left (λ input. (p : Meant) × IsProgram input p × (has_refusal p input ≡ true))
+
+-- the whole output of an input's program
+abbrev pub IsWhole : Option (List ℕ) → Option (List ℕ) → List ℕ → Type 0
+IsWhole taken now input = (p : Meant) × IsProgram input p × Appends taken now (output p input)
+
+-- a prefix of it
+abbrev pub IsPrefix : Option (List ℕ) → Option (List ℕ) → List ℕ → Type 0
+IsPrefix taken now input = (p : Meant) × IsProgram input p × ((n : ℕ) × (n ≤ length (output p input)) × Appends taken now (take n (output p input)))
+
+-- nothing, or the blocks and refusals of the first k ticks of an input's program, each whole
+abbrev pub IsBlocks : Option (List ℕ) → Option (List ℕ) → List ℕ → Type 0
+IsBlocks taken now input = Keeps taken now
+    ⊎ ((p : Meant) × IsProgram input p × ((k : ℕ) × Appends taken now (texts_from p 0 (take k (reports p (lines_after_end (lines_of input)))))))
 
 -- What a status says of the sink for the output: it took the whole output, nothing, where a write failed a prefix, and
--- for want of memory the blocks and refusals of the first k ticks, each whole.
+-- for want of memory whole blocks and refusals.
 pub record Writes (left taken now : Option (List ℕ)) (before after : ℕ) (status : Status) : Type 0 where
-  pub whole : IsFinished status → IfSome left (λ input. Appends taken now (output input))
+  pub whole : IsFinished status → IfSome left (IsWhole taken now)
   pub nothing : IsUnwritten status → Keeps taken now
-  pub prefix : status ≡ WriteFault → IfSome left (λ input. (n : ℕ) × (n ≤ length (output input)) × Appends taken now (take n (output input)))
-  pub blocks : status ≡ NoMemory → IfSome left (λ input. (k : ℕ) × Appends taken now (texts_from 0 (take k (reports (lines_after_end (lines_of input))))))
+  pub prefix : status ≡ WriteFault → IfSome left (IsPrefix taken now)
+  pub blocks : status ≡ NoMemory → IfSome left (IsBlocks taken now)
   pub fault : status ≡ WriteFault → Rose before after
 
 -- the one line that tells of a status, where it has no fault to tell of, or nothing
@@ -77,14 +91,19 @@ Tells left taken now status = Appends taken now (status_line status)
 -- the line that tells of an ending
 abbrev pub ending_line : Ending → List ℕ
 ending_line (Ends status) = status_line status
-ending_line (Refused fault) = fault_text fault
+ending_line (Refused line) = line.items
 
 -- the status of an ending
 abbrev pub status_of : Ending → Status
 status_of (Ends status) = status
-status_of (Refused fault) = BadProgram
+status_of (Refused line) = BadProgram
 
--- the fault of an ending is the first of the program
+-- the line of a refusal is that of the program's first fault
 abbrev pub Names : Option (List ℕ) → Ending → Type 0
 Names left (Ends status) = status ≢ BadProgram
-Names left (Refused fault) = IfSome left (λ input. HasFault input fault)
+Names left (Refused line) = (fault : ProgramFault) × IfSome left (λ input. HasFault input fault) × (line.items ≡ fault_text fault)
+
+-- the ending of a program with this fault, unless memory ran out
+abbrev pub Refuses : ProgramFault → Ending → Type 0
+Refuses fault (Ends status) = status ≡ NoMemory
+Refuses fault (Refused line) = line.items ≡ fault_text fault

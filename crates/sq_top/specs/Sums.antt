@@ -1,19 +1,25 @@
 -- The changes that were printed so far, added up.
-use Rattle.std.specs.Prelude.{List, [], ◌∷◌, ℤ, pos, ◌+ℤ◌}
-use Rattle.sq_top.specs.Ticks.{Row, Outcome, accepted, refused, rows_after}
+use Rattle.std.specs.Prelude.{ℕ, List, [], ◌∷◌, ℤ, pos, ◌+ℤ◌}
+use Rattle.sq_lists.specs.Shown.{shown}
+use Rattle.sq_typed.specs.From.{Row}
+use Rattle.sq_typed.specs.Laws.{rows_in}
+use Rattle.sq_typed.specs.Tables.{Tables}
+use Rattle.sq_typed.specs.Views.{Meant}
+use Rattle.sq_top.specs.Ticks.{Outcome, Report, accepted, refused, tables_after}
 use Rattle.sq_top.specs.Texts.{rise}
 
--- by how much a report says that the count of a row rose: the number that is printed for it, a delete with a minus
-abbrev pub printed : Row → List Row → Outcome → ℤ
-printed row before (accepted now) = rise before now row
-printed row before (refused why) = pos 0
+-- by how much a tick says that the count of a row in a view rose: the number that is printed for it where the view is printed,
+-- a delete with a minus
+abbrev pub printed : Meant → ℕ → Row → List (List Row) → Outcome → ℤ
+printed p view row before (accepted now) = rise (rows_in before view) (rows_in (shown p now) view) row
+printed p view row before (refused why) = pos 0
 
--- the sum of the numbers that are printed for a row in some reports
-abbrev pub printed_sum : Row → List (List Row × Outcome) → ℤ
-printed_sum row [] = pos 0
-printed_sum row (r ∷ rs) = printed row r.0 r.1 +ℤ printed_sum row rs
+-- the sum of the numbers that are printed for a row of a view in some ticks
+abbrev pub printed_sum : Meant → ℕ → Row → List Report → ℤ
+printed_sum p view row [] = pos 0
+printed_sum p view row (r ∷ rs) = printed p view row r.0 r.1 +ℤ printed_sum p view row rs
 
--- the rows of the table once these reports are made
-abbrev pub rows_now : List Row → List (List Row × Outcome) → List Row
-rows_now rows [] = rows
-rows_now rows (r ∷ rs) = rows_now (rows_after r.0 r.1) rs
+-- the tables once these ticks are made
+abbrev pub tables_now : Tables → List Report → Tables
+tables_now tables [] = tables
+tables_now tables (r ∷ rs) = tables_now (tables_after tables r.1) rs

@@ -2,7 +2,9 @@
 ghost use Rattle.std.specs.Prelude.{◌≡◌, ◌≢◌, ◌↔◌, ◌≤◌, ◌^◌, [], IfSome};
 ghost use Rattle.std.specs.Io.KnownBytes.{Appends};
 ghost use Rattle.sq_base.specs.Causes.{Rose};
+ghost use Rattle.sq_typed.specs.Views.{Meant};
 ghost use Rattle.sq_top.specs.Output.{output};
+ghost use Rattle.sq_top.specs.Programs.{IsProgram};
 ghost use Rattle.sq_top.specs.Statuses.{IsFinished, Reads, Judges, Writes, Tells};
 
 use crate::session::run_input;
@@ -32,7 +34,7 @@ pub fn top<R: Threads + Sync, S: Source, K: Sink, E: Sink, G: Gate>(
     ensures untouched { result ≡ Status.Usage
         → (input.new ≡ input.old) × (out.new ≡ out.old) × (err.new ≡ err.old) }
     ensures headline { IsFinished result → IfSome (S.left input.old)
-        (λ bytes. Appends (K.taken out.old) (K.taken out.new) (output bytes)) }
+        (λ bytes. (p : Meant) × IsProgram bytes p × Appends (K.taken out.old) (K.taken out.new) (output p bytes)) }
     ensures input { Reads (2 ^ 40) (S.left input.old) (S.left input.new)
         (S.faults input.old) (S.faults input.new) result }
     ensures judged { Judges (S.left input.old) result }
@@ -47,9 +49,9 @@ pub fn top<R: Threads + Sync, S: Source, K: Sink, E: Sink, G: Gate>(
     serve(rt, alloc, input, out, err, gate, 1, LONGEST_INPUT)
 }
 
-/// Reads a program and its change lines from `input`, keeps the program's view current, and writes its change after
-/// each tick to `out`: at `Done` and `DoneWithRefusals` exactly `output` of the bytes that the input held, however
-/// they came in pieces and whatever `workers` is.
+/// Reads a program and its change lines from `input`, keeps the program's views current, and writes their changes after
+/// each tick to `out`: at `Done` and `DoneWithRefusals` exactly `output` of the program and of the bytes that the input
+/// held, however they came in pieces and whatever `workers` is.
 ///
 /// At most `limit` bytes are read. Where the status tells of a fault, its one line goes to `err`, whose own faults are
 /// passed over. The gate is not called yet.
@@ -66,7 +68,7 @@ pub fn serve<R: Threads + Sync, S: Source, K: Sink, E: Sink, G: Gate>(
     requires workers { (1 ≤ workers) × (workers ≤ 64) }
     requires limit { limit ≤ 2 ^ 40 }
     ensures headline { IsFinished result → IfSome (S.left input.old)
-        (λ bytes. Appends (K.taken out.old) (K.taken out.new) (output bytes)) }
+        (λ bytes. (p : Meant) × IsProgram bytes p × Appends (K.taken out.old) (K.taken out.new) (output p bytes)) }
     ensures input { Reads limit (S.left input.old) (S.left input.new)
         (S.faults input.old) (S.faults input.new) result }
     ensures judged { Judges (S.left input.old) result }

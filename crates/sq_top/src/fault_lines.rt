@@ -1,61 +1,50 @@
-//! The line that tells of a program's fault. It is written in pieces, so that it takes no memory.
-ghost use Rattle.std.specs.Prelude.{◌≡◌, ◌++◌, OnOk, codes, decimal};
-ghost use Rattle.std.specs.Io.KnownBytes.{Appends};
-ghost use Rattle.sq_base.specs.Causes.{Rose, HasCause};
-ghost use Rattle.sq_top.specs.FaultTexts.{fault_text, kind_text, plain_fault, placed_fault, statement_fault};
+//! The line that tells of a program's fault.
+ghost use Rattle.std.specs.Prelude.{◌≡◌, IfOk};
+ghost use Rattle.sq_top.specs.FaultTexts.{fault_text, kind_text, plain_fault, numbered_fault, placed_fault, statement_fault};
 
+use crate::json_text::{push_number, push_quoted};
 use crate::program_fault::ProgramFault;
-use itoa::Buffer;
-use sq_base::{Failed, Sink, put_all};
 use sq_parse::ParseFault;
 use sq_token::LexFault;
 use sq_typed::CheckKind;
+use sq_value::NoMemory;
+use std::alloc::Global;
 
-/// Writes the one line that tells of a fault. A fault of `err` is passed over.
-pub fn tell_fault<E: Sink>(fault: ProgramFault, err: &mut E)
-    ensures { (Rose (E.faults err.old) (E.faults err.new) → ⊥)
-        → Appends (E.taken err.old) (E.taken err.new) (fault_text fault) }
-{
-    let _ = put_fault(fault, err);
-}
-
-fn put_fault<E: Sink>(fault: ProgramFault, err: &mut E) -> Result<(), Failed>
-    ensures all { OnOk result (Appends (E.taken err.old) (E.taken err.new) (fault_text fault)) }
-    ensures cause { HasCause (E.faults err.old) (E.faults err.new) result }
+/// The one line that tells of a fault.
+pub fn fault_line(alloc: Global, fault: &ProgramFault) -> Result<Vec<u8>, NoMemory>
+    ensures { IfOk result (λ line. line.items ≡ fault_text fault.now) }
 {
     match fault {
-        ProgramFault::TextTooLong => put_plain(b"text too long", err),
-        ProgramFault::NoEnd => put_plain(b"no end line", err),
-        ProgramFault::NotUtf8 => put_plain(b"not UTF-8", err),
-        ProgramFault::NotBuilt => put_plain(b"not built", err),
-        ProgramFault::Lex(fault) => put_lex(fault, err),
-        ProgramFault::Parse(fault) => put_parse(fault, err),
-        ProgramFault::Check { number, kind } => put_statement(kind_name(kind), number, err),
+        ProgramFault::TextTooLong => plain_line(alloc, b"text too long"),
+        ProgramFault::NoEnd => plain_line(alloc, b"no end line"),
+        ProgramFault::NotUtf8 => plain_line(alloc, b"not UTF-8"),
+        ProgramFault::Lex(fault) => lex_line(alloc, *fault),
+        ProgramFault::Parse(fault) => parse_line(alloc, *fault),
+        ProgramFault::Check { number, kind } => statement_line(alloc, kind_name(*kind), *number),
+        ProgramFault::Range { view } => range_line(alloc, view.as_str()),
     }
 }
 
-fn put_lex<E: Sink>(fault: LexFault, err: &mut E) -> Result<(), Failed>
-    ensures all { OnOk result (Appends (E.taken err.old) (E.taken err.new) (fault_text (ProgramFault.Lex fault))) }
-    ensures cause { HasCause (E.faults err.old) (E.faults err.new) result }
+fn lex_line(alloc: Global, fault: LexFault) -> Result<Vec<u8>, NoMemory>
+    ensures { IfOk result (λ line. line.items ≡ fault_text (ProgramFault.Lex fault)) }
 {
     match fault {
-        LexFault::BadByte { at } => put_placed(b"bad byte", at, err),
-        LexFault::OpenText { at } => put_placed(b"open text", at, err),
-        LexFault::OpenName { at } => put_placed(b"open name", at, err),
-        LexFault::OpenComment { at } => put_placed(b"open comment", at, err),
-        LexFault::LongNumber { at } => put_placed(b"long number", at, err),
-        LexFault::Memory => Ok(()),
+        LexFault::BadByte { at } => placed_line(alloc, b"bad byte", at),
+        LexFault::OpenText { at } => placed_line(alloc, b"open text", at),
+        LexFault::OpenName { at } => placed_line(alloc, b"open name", at),
+        LexFault::OpenComment { at } => placed_line(alloc, b"open comment", at),
+        LexFault::LongNumber { at } => placed_line(alloc, b"long number", at),
+        LexFault::Memory => Ok(Vec::new(alloc)),
     }
 }
 
-fn put_parse<E: Sink>(fault: ParseFault, err: &mut E) -> Result<(), Failed>
-    ensures all { OnOk result (Appends (E.taken err.old) (E.taken err.new) (fault_text (ProgramFault.Parse fault))) }
-    ensures cause { HasCause (E.faults err.old) (E.faults err.new) result }
+fn parse_line(alloc: Global, fault: ParseFault) -> Result<Vec<u8>, NoMemory>
+    ensures { IfOk result (λ line. line.items ≡ fault_text (ProgramFault.Parse fault)) }
 {
     match fault {
-        ParseFault::NotGrammar { number } => put_statement(b"not grammar", number, err),
-        ParseFault::TooDeep { number } => put_statement(b"too deep", number, err),
-        ParseFault::Memory => Ok(()),
+        ParseFault::NotGrammar { number } => statement_line(alloc, b"not grammar", number),
+        ParseFault::TooDeep { number } => statement_line(alloc, b"too deep", number),
+        ParseFault::Memory => Ok(Vec::new(alloc)),
     }
 }
 
@@ -79,41 +68,46 @@ fn kind_name(kind: CheckKind) -> &'static [u8]
     }
 }
 
-fn put_plain<E: Sink>(cause: &[u8], err: &mut E) -> Result<(), Failed>
-    ensures all { OnOk result (Appends (E.taken err.old) (E.taken err.new) (plain_fault cause.now)) }
-    ensures cause { HasCause (E.faults err.old) (E.faults err.new) result }
+fn plain_line(alloc: Global, cause: &[u8]) -> Result<Vec<u8>, NoMemory>
+    ensures { IfOk result (λ line. line.items ≡ plain_fault cause.now) }
 {
-    put_all(err, b"{\"program\":\"")?;
-    put_all(err, cause)?;
-    put_all(err, b"\"}\n")
+    let mut line = Vec::from_slice(alloc, b"{\"program\":\"")?;
+    line.extend_from_slice(cause)?;
+    line.extend_from_slice(b"\"}\n")?;
+    Ok(line)
 }
 
-fn put_placed<E: Sink>(cause: &[u8], at: u32, err: &mut E) -> Result<(), Failed>
-    ensures all { OnOk result (Appends (E.taken err.old) (E.taken err.new) (placed_fault cause.now at)) }
-    ensures cause { HasCause (E.faults err.old) (E.faults err.new) result }
+fn placed_line(alloc: Global, cause: &[u8], at: u32) -> Result<Vec<u8>, NoMemory>
+    ensures { IfOk result (λ line. line.items ≡ placed_fault cause.now at) }
 {
-    put_all(err, b"{\"program\":\"")?;
-    put_all(err, cause)?;
-    put_all(err, b"\",\"at\":")?;
-    put_number(at, err)?;
-    put_all(err, b"}\n")
+    numbered_line(alloc, cause, b"at", at)
 }
 
-fn put_statement<E: Sink>(cause: &[u8], number: u32, err: &mut E) -> Result<(), Failed>
-    ensures all { OnOk result (Appends (E.taken err.old) (E.taken err.new) (statement_fault cause.now number)) }
-    ensures cause { HasCause (E.faults err.old) (E.faults err.new) result }
+fn statement_line(alloc: Global, cause: &[u8], number: u32) -> Result<Vec<u8>, NoMemory>
+    ensures { IfOk result (λ line. line.items ≡ statement_fault cause.now number) }
 {
-    put_all(err, b"{\"program\":\"")?;
-    put_all(err, cause)?;
-    put_all(err, b"\",\"statement\":")?;
-    put_number(number, err)?;
-    put_all(err, b"}\n")
+    numbered_line(alloc, cause, b"statement", number)
 }
 
-fn put_number<E: Sink>(number: u32, err: &mut E) -> Result<(), Failed>
-    ensures all { OnOk result (Appends (E.taken err.old) (E.taken err.new) (decimal number)) }
-    ensures cause { HasCause (E.faults err.old) (E.faults err.new) result }
+// The line of a fault with a number, which stands in a member of this name.
+fn numbered_line(alloc: Global, cause: &[u8], name: &[u8], number: u32) -> Result<Vec<u8>, NoMemory>
+    ensures { IfOk result (λ line. line.items ≡ numbered_fault cause.now name.now number) }
 {
-    let mut buffer = Buffer::new();
-    put_all(err, buffer.format(number).as_bytes())
+    let mut line = Vec::from_slice(alloc, b"{\"program\":\"")?;
+    line.extend_from_slice(cause)?;
+    line.extend_from_slice(b"\",\"")?;
+    line.extend_from_slice(name)?;
+    line.extend_from_slice(b"\":")?;
+    push_number(&mut line, number as u64)?;
+    line.extend_from_slice(b"}\n")?;
+    Ok(line)
+}
+
+fn range_line(alloc: Global, view: &str) -> Result<Vec<u8>, NoMemory>
+    ensures { IfOk result (λ line. line.items ≡ fault_text (ProgramFault.Range view.now)) }
+{
+    let mut line = Vec::from_slice(alloc, b"{\"program\":\"range\",\"view\":")?;
+    push_quoted(alloc, &mut line, view)?;
+    line.extend_from_slice(b"}\n")?;
+    Ok(line)
 }

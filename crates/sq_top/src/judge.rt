@@ -1,29 +1,51 @@
 //! The judgement of the program of an input.
 ghost use Rattle.std.specs.Str.{IsUtf8};
-ghost use Rattle.std.specs.Prelude.{◌≡◌, ◌↔◌, IsTrue, ◌<◌, ◌≤◌, ◌^◌, ◌-◌, length, true, false, IfOk, IfErr, OnOk};
-ghost use Rattle.sq_ast.specs.Spelling.{Spells};
-ghost use Rattle.sq_top.specs.Lines.{lines_of, has_end_line, lines_after_end};
 ghost use Rattle.std.specs.List.{AllByRecursion};
+ghost use Rattle.std.specs.Prelude.{◌≡◌, ◌↔◌, IsTrue, ◌<◌, ◌≤◌, ◌^◌, ◌-◌, length, false, IfOk, IfErr, None as Nothing};
 ghost use Rattle.sq_typed.specs.Checked.{Spelling};
-ghost use Rattle.sq_top.specs.Programs.{HasFault, longest_text, built, IsBuilt, IsAccepted, TextStops, Stops, StatementsStop, TokensStop};
+ghost use Rattle.sq_top.specs.Lines.{lines_of, has_end_line, lines_after_end};
+ghost use Rattle.sq_top.specs.Programs.{HasFault, longest_text, IsProgram, IsProgramText, SpellProgram, Mean, TextStops, Stops, StatementsStop, TokensStop};
+ghost use Rattle.sq_top.specs.Judgements.{IsJudged, Starts, RangeStop};
 
-use crate::built::is_built;
 use crate::lines::split_program;
 use crate::program_fault::ProgramFault;
+use crate::relations::{empty_tables, view_name};
 use sq_ast::Statement;
 use sq_check::{CheckFault, check};
+use sq_lists::{ViewsStop, list_views};
 use sq_parse::{ParseFault, statements};
 use sq_token::{LexFault, Token, tokens};
+use sq_typed::Program;
+use sq_value::{NoMemory, Row};
+use sqlite_items::Items;
 use std::alloc::Global;
 
 /// The most bytes that a program text may have.
 const LONGEST_TEXT: usize = 1_048_576;
 
+/// A program that is accepted, with its tables, which are empty, and the rows of its views over them.
+#[derive(Drop)]
+pub struct Judged {
+    pub program: Program,
+    pub tables: Vec<Items<Row>>,
+    pub shown: Vec<Items<Row>>,
+}
+
 /// Why no program was accepted.
-#[derive(Clone, Copy, Debug, PartialEq, Eq)]
+#[derive(Debug, Drop)]
 pub enum JudgeStop {
     Fault(ProgramFault),
     Memory,
+}
+
+impl From<NoMemory> for JudgeStop {
+    ghost use Rattle.sq_top.specs.declared.judge.JudgeStop.TheVariants.{Memory};
+
+    ghost from_gives = { λ _ stop. stop ≡ Memory };
+
+    fn from(_: NoMemory) -> Self {
+        JudgeStop::Memory
+    }
 }
 
 impl From<LexFault> for JudgeStop {
@@ -67,11 +89,12 @@ impl From<CheckFault> for JudgeStop {
     }
 }
 
-/// The change lines of an input whose program is the one that is built, or the first fault of its program.
-pub fn judge(alloc: Global, input: &[u8]) -> Result<&[u8], JudgeStop>
-    ensures accepted { OnOk result (IsAccepted input.now) }
-    ensures lines { IfOk result (λ lines. (lines_of lines.now ≡ lines_after_end (lines_of input.now))
-        × (length lines.now ≤ length input.now)) }
+/// The program of an input and its change lines, or the first fault of its program.
+pub fn judge(alloc: Global, input: &[u8]) -> Result<(Judged, &[u8]), JudgeStop>
+    ensures accepted { IfOk result (λ r. IsProgram input.now r.0.program) }
+    ensures starts { IfOk result (λ r. Starts r.0) }
+    ensures lines { IfOk result (λ r. (lines_of r.1.now ≡ lines_after_end (lines_of input.now))
+        × (length r.1.now ≤ length input.now)) }
     ensures refused { IfErr result (Stops input.now) }
 {
     let Some((text, lines)) = split_program(input) else {
@@ -80,8 +103,8 @@ pub fn judge(alloc: Global, input: &[u8]) -> Result<&[u8], JudgeStop>
     if text.len() > LONGEST_TEXT {
         return Err(JudgeStop::Fault(ProgramFault::TextTooLong));
     }
-    judge_text(alloc, text)?;
-    Ok(lines)
+    let judged = judge_text(alloc, text)?;
+    Ok((judged, lines))
 }
 
 // The fault of an input without an end line.
@@ -96,10 +119,11 @@ fn without_end(input: &[u8]) -> ProgramFault
     }
 }
 
-// Whether a text is the program that is built, or its first fault.
-fn judge_text(alloc: Global, text: &[u8]) -> Result<(), JudgeStop>
+// The program of a text, or its first fault.
+fn judge_text(alloc: Global, text: &[u8]) -> Result<Judged, JudgeStop>
     requires { length text.now ≤ longest_text }
-    ensures accepted { OnOk result (IsBuilt text.now) }
+    ensures accepted { IfOk result (λ j. IsProgramText text.now j.program) }
+    ensures starts { IfOk result Starts }
     ensures refused { IfErr result (TextStops text.now) }
 {
     if !is_utf8(text) {
@@ -110,9 +134,10 @@ fn judge_text(alloc: Global, text: &[u8]) -> Result<(), JudgeStop>
 }
 
 // The same for the tokens of a text.
-fn judge_tokens(alloc: Global, tokens: &[Token]) -> Result<(), JudgeStop>
+fn judge_tokens(alloc: Global, tokens: &[Token]) -> Result<Judged, JudgeStop>
     requires { length tokens.now ≤ longest_text }
-    ensures accepted { OnOk result (Spells tokens.now built) }
+    ensures accepted { IfOk result (λ j. SpellProgram tokens.now j.program) }
+    ensures starts { IfOk result Starts }
     ensures refused { IfErr result (TokensStop tokens.now) }
 {
     let statements = statements(alloc, tokens)?;
@@ -120,16 +145,34 @@ fn judge_tokens(alloc: Global, tokens: &[Token]) -> Result<(), JudgeStop>
 }
 
 // The same for statements, each of which is spelled by some tokens.
-fn judge_statements(alloc: Global, statements: &[Statement]) -> Result<(), JudgeStop>
+fn judge_statements(alloc: Global, statements: &[Statement]) -> Result<Judged, JudgeStop>
     requires { AllByRecursion Spelling statements.now }
-    ensures accepted { OnOk result (statements.now ≡ built) }
+    ensures accepted { IfOk result (λ j. Mean statements.now j.program) }
+    ensures starts { IfOk result Starts }
     ensures refused { IfErr result (StatementsStop statements.now) }
 {
-    check(alloc, statements)?;
-    if is_built(statements) {
-        Ok(())
-    } else {
-        Err(JudgeStop::Fault(ProgramFault::NotBuilt))
+    let program = check(alloc, statements)?;
+    judge_program(alloc, program)
+}
+
+// A program with its views over empty tables, or the first view that is out of range over them.
+fn judge_program(alloc: Global, program: Program) -> Result<Judged, JudgeStop>
+    ensures accepted { IfOk result (λ j. IsJudged program j) }
+    ensures starts { IfOk result Starts }
+    ensures refused { IfErr result (RangeStop program) }
+{
+    let tables = empty_tables(alloc, program.catalog())?;
+    match list_views(alloc, &program, &tables) {
+        Ok(shown) => Ok(Judged {
+            program,
+            tables,
+            shown,
+        }),
+        Err(ViewsStop::Range { view }) => {
+            let view = view_name(alloc, program.catalog(), view)?;
+            Err(JudgeStop::Fault(ProgramFault::Range { view }))
+        }
+        Err(ViewsStop::Memory) => Err(JudgeStop::Memory),
     }
 }
 

@@ -1,14 +1,37 @@
-//! A law over the definitions, as the contract of a function that does nothing.
-ghost use Rattle.std.specs.Prelude.{◌≡◌, ℕ, List, [], pos, take};
+//! What holds of the definitions, each as the contract of a function that does nothing.
+ghost use Rattle.std.specs.Prelude.{◌≡◌, ◌+◌, ℕ, List, pos, take, false};
 ghost use Rattle.sq_value.specs.Count.{count};
-ghost use Rattle.sq_top.specs.Ticks.{Row};
+ghost use Rattle.sq_lists.specs.Shown.{shown};
+ghost use Rattle.sq_typed.specs.From.{Row};
+ghost use Rattle.sq_typed.specs.Laws.{rows_in};
+ghost use Rattle.sq_typed.specs.Views.{Meant};
+ghost use Rattle.sq_lines.specs.declared.line.Line.{Line as Said};
 ghost use Rattle.sq_top.specs.Output.{reports};
-ghost use Rattle.sq_top.specs.Sums.{printed_sum, rows_now};
+ghost use Rattle.sq_top.specs.Programs.{IsProgram, HasFault};
+ghost use Rattle.sq_top.specs.Relations.{empty_tables};
+ghost use Rattle.sq_top.specs.Sums.{printed_sum, tables_now};
+ghost use Rattle.sq_top.specs.Ticks.{outcome};
+ghost use Rattle.sq_top.specs.Updates.{updates_of, has_bad, outcome_after};
+ghost use Rattle.sq_top.specs.declared.program_fault.ProgramFault.{ProgramFault as Fault};
+ghost use Rattle.sq_typed.specs.Tables.{Tables, after};
 
-/// After any number of ticks, the numbers printed so far for a row, deletes with a minus, add up to how often the view
-/// holds the row now.
+/// After block 0 and any number of ticks, the numbers printed so far for a row of a view, deletes with a minus, add up to how
+/// often the view holds the row over the tables now.
 #[tactic(auto, using(crate::proofs::SumLemmas::changes_add_up))]
 pub fn changes_add_up()
-    ensures { (lines : List (List ℕ)) (k : ℕ) (row : Row)
-        → printed_sum row (take k (reports lines)) ≡ pos (count row (rows_now [] (take k (reports lines)))) }
+    ensures { (p : Meant) (lines : List (List ℕ)) (k view : ℕ) (row : Row)
+        → printed_sum p view row (take (k + 1) (reports p lines))
+        ≡ pos (count row (rows_in (shown p (tables_now (empty_tables p.catalog) (take (k + 1) (reports p lines)))) view)) }
+{}
+
+/// An input has at most one program and at most one fault, and never both.
+pub fn one_program()
+    ensures one { (input : List ℕ) (p q : Meant) → IsProgram input p → IsProgram input q → p ≡ q }
+    ensures not_both { (input : List ℕ) (p : Meant) (fault : Fault) → IsProgram input p → HasFault input fault → ⊥ }
+{}
+
+/// Over lines none of which is bad, a tick makes the updates of its lines in order.
+#[tactic(auto, using(crate::proofs::UpdateLemmas::lines_are_updates))]
+pub fn ticks_make_updates()
+    ensures { (p : Meant) (tables : Tables) (lines : List Said) → has_bad lines ≡ false → outcome p tables lines ≡ outcome_after p (after tables (updates_of lines)) }
 {}

@@ -1,14 +1,13 @@
-//! The program of Keltzumba as one call: `top` reads the words and the input, and writes the changes of the view.
+//! The program of Keltzumba as one call: `top` reads the words and the input, and writes the changes of the views.
 //!
-//! So far one program is built, with the table `t (a INTEGER)` and the view `v` of all its rows. The reading of change
-//! lines, the ticks and the printed texts are private parts of this crate.
+//! So far the views are computed anew over lists of rows at each tick. The ticks and the printed texts are private parts
+//! of this crate.
 #![tactic(auto)]
 
-mod built;
 mod calls;
 mod change;
-mod change_line;
 mod fault_lines;
+mod json_text;
 mod judge;
 pub mod laws;
 mod lines;
@@ -17,6 +16,7 @@ mod print;
 mod program_fault;
 mod read;
 mod refusal;
+mod relations;
 mod run;
 mod session;
 mod statuses;
@@ -25,6 +25,8 @@ mod tick;
 pub use calls::{serve, top};
 pub use statuses::Status;
 
+#[cfg(test)]
+mod example_tests;
 #[cfg(test)]
 mod program_tests;
 #[cfg(test)]

@@ -2,9 +2,10 @@
 use sq_parse::ParseFault;
 use sq_token::LexFault;
 use sq_typed::CheckKind;
+use sq_value::Str;
 
 /// The first fault of a program text. It holds no `Memory`.
-#[derive(Clone, Copy, Debug, PartialEq, Eq)]
+#[derive(Debug, Drop)]
 pub enum ProgramFault {
     /// More than 1,048,576 bytes stand before the end line, or come without one.
     TextTooLong,
@@ -18,6 +19,6 @@ pub enum ProgramFault {
     Parse(ParseFault),
     /// A statement has a fault: the first that has one, with its number and the first kind of fault that it has.
     Check { number: u32, kind: CheckKind },
-    /// The statements are not those of the program that is built.
-    NotBuilt,
+    /// The view of this name is the first that is out of range over empty tables.
+    Range { view: Str },
 }

@@ -1,4 +1,4 @@
-// Programs that are refused, with the line that tells why, and the one that is built in other words.
+// Programs that are refused, with the line that tells why, and some that are accepted.
 use crate::{Status, top};
 use sq_base::{FreeGate, MemSink, MemSource};
 use sq_value::NoMemory;
@@ -60,7 +60,19 @@ fn second_is_refused<R: Threads + Sync + Abort>(
     text_is_refused(rt, alloc, &text, told)
 }
 
-const NOT_BUILT: &[u8] = b"{\"program\":\"not built\"}\n";
+const BLOCK_0: &[u8] = b"{\"tick\":0,\"accepted\":true}\n";
+
+// Checks that a second statement, behind one that creates a table, is accepted.
+fn second_is_accepted<R: Threads + Sync + Abort>(
+    rt: &R,
+    alloc: Global,
+    statement: &[u8],
+) -> Result<(), NoMemory> {
+    let mut text = Vec::from_slice(alloc, b"CREATE TABLE t (a INTEGER, s VARCHAR);\n")?;
+    text.extend_from_slice(statement)?;
+    text.extend_from_slice(b"\n---\n")?;
+    ends(rt, alloc, &text, BLOCK_0, b"", Status::Done)
+}
 
 #[test]
 fn an_input_without_an_end_line_is_refused(rt: HostRuntime) -> Result<(), Fail> {
@@ -78,7 +90,9 @@ fn a_text_that_is_too_long_is_refused(rt: HostRuntime) -> Result<(), Fail> {
     let told = b"{\"program\":\"text too long\"}\n";
     // 1,048,576 bytes of spaces and a line end are a program without statements, and one space more is too long.
     let mut text = vec![in alloc; b' '; 1_048_575]?;
-    text_is_refused(&rt, alloc, &text, NOT_BUILT)?;
+    let mut input = text.clone()?;
+    input.extend_from_slice(b"\n---\n")?;
+    ends(&rt, alloc, &input, BLOCK_0, b"", Status::Done)?;
     text.push(b' ')?;
     text_is_refused(&rt, alloc, &text, told)?;
     text.push(b' ')?;
@@ -154,7 +168,7 @@ fn faults_of_grammar_name_their_statement(rt: HostRuntime) -> Result<(), Fail> {
         told,
     )?;
     second_is_refused(&rt, alloc, b"CREATE VIEW v AS SELECT a, FROM t", told)?;
-    second_is_refused(&rt, alloc, &nested(alloc, 64)?, NOT_BUILT)?;
+    second_is_accepted(&rt, alloc, &nested(alloc, 64)?)?;
     second_is_refused(
         &rt,
         alloc,
@@ -173,41 +187,10 @@ fn faults_of_grammar_name_their_statement(rt: HostRuntime) -> Result<(), Fail> {
 #[test]
 fn the_program_may_be_laid_out_otherwise(rt: HostRuntime) -> Result<(), Fail> {
     let alloc = rt.alloc();
-    let block_0 = b"{\"tick\":0,\"accepted\":true}\n";
     let text =
         b"-- rows\ncreate table T(A integer null);/* all */CREATE VIEW \"v\" AS (SELECT ALL * FROM t);;\n---\n";
-    ends(&rt, alloc, text, block_0, b"", Status::Done)?;
-    // Other types, names, items and numbers of statements are other programs.
-    text_is_refused(
-        &rt,
-        alloc,
-        b"CREATE TABLE t (a INT); CREATE VIEW v AS SELECT * FROM t",
-        NOT_BUILT,
-    )?;
-    text_is_refused(
-        &rt,
-        alloc,
-        b"CREATE TABLE t (a INTEGER); CREATE VIEW v AS SELECT a FROM t",
-        NOT_BUILT,
-    )?;
-    text_is_refused(
-        &rt,
-        alloc,
-        b"CREATE TABLE t (a INTEGER); CREATE LOCAL VIEW v AS SELECT * FROM t",
-        NOT_BUILT,
-    )?;
-    text_is_refused(
-        &rt,
-        alloc,
-        b"CREATE TABLE t (a INTEGER);; CREATE VIEW v AS SELECT * FROM t",
-        NOT_BUILT,
-    )?;
-    text_is_refused(
-        &rt,
-        alloc,
-        b"CREATE TABLE t (a INTEGER); CREATE VIEW v AS SELECT * FROM t WHERE 1 = 1",
-        NOT_BUILT,
-    )?;
+    ends(&rt, alloc, text, BLOCK_0, b"", Status::Done)?;
+    ends(&rt, alloc, b"---\n", BLOCK_0, b"", Status::Done)?;
     Ok(())
 }
 
@@ -297,15 +280,26 @@ fn faults_of_statements_are_told_by_their_kind(rt: HostRuntime) -> Result<(), Fa
 }
 
 #[test]
-fn statements_without_faults_are_another_program(rt: HostRuntime) -> Result<(), Fail> {
+fn statements_without_faults_are_accepted(rt: HostRuntime) -> Result<(), Fail> {
     let alloc = rt.alloc();
     for statement in [
         "CREATE VIEW v AS SELECT 9223372036854775808 * 9223372036854775808 * 1 AS c FROM t",
-        "CREATE VIEW v AS SELECT COUNT(*) + 9223372036854775808 AS c FROM t",
         "CREATE VIEW v AS SELECT x.a, SUM(y.a + 1) AS c FROM t x LEFT JOIN (SELECT a FROM t) y ON x.a = y.a WHERE x.s <> 'b' GROUP BY x.a HAVING MAX(y.a) > 2",
         "CREATE VIEW v AS SELECT a FROM t EXCEPT (SELECT a FROM t INTERSECT SELECT 1 FROM t)",
     ] {
-        second_is_refused(&rt, alloc, statement.as_bytes(), NOT_BUILT)?;
+        second_is_accepted(&rt, alloc, statement.as_bytes())?;
     }
+    Ok(())
+}
+
+#[test]
+fn a_view_out_of_range_over_empty_tables_is_refused(rt: HostRuntime) -> Result<(), Fail> {
+    let alloc = rt.alloc();
+    second_is_refused(
+        &rt,
+        alloc,
+        b"CREATE VIEW u AS SELECT a FROM t; CREATE VIEW v AS SELECT COUNT(*) + 9223372036854775808 AS c FROM t",
+        b"{\"program\":\"range\",\"view\":\"v\"}\n",
+    )?;
     Ok(())
 }

@@ -2,23 +2,23 @@
 ghost use Rattle.std.specs.Prelude.{◌≡◌, ◌≢◌, ◌⊎◌, ◌≤◌, ◌^◌, length, Some};
 ghost use Rattle.std.specs.Io.KnownBytes.{Appends};
 ghost use Rattle.sq_base.specs.Causes.{Rose};
-ghost use Rattle.sq_top.specs.Statuses.{ending_line, IsRead, Reads, Judges, Writes, Names, status_of};
+ghost use Rattle.sq_top.specs.Statuses.{ending_line, IsRead, Reads, Judges, Writes, Names, Refuses, status_of};
 
-use crate::fault_lines::tell_fault;
+use crate::fault_lines::fault_line;
 use crate::judge::{JudgeStop, judge};
 use crate::play::play_lines;
 use crate::program_fault::ProgramFault;
 use crate::read::{ReadStop, read_all};
 use crate::run::Stop;
 use crate::statuses::Status;
-use sq_base::{Sink, Source};
+use sq_base::{Sink, Source, put_all};
 use std::alloc::Global;
 
-/// How a run ends: with a status, or with the fault of its program.
-#[derive(Clone, Copy, Debug, PartialEq, Eq)]
+/// How a run ends: with a status, or with the line that tells of the fault of its program.
+#[derive(Debug, Drop)]
 pub enum Ending {
     Ends(Status),
-    Refused(ProgramFault),
+    Refused(Vec<u8>),
 }
 
 impl Ending {
@@ -33,8 +33,8 @@ impl Ending {
                 status.tell(err);
                 status
             }
-            Ending::Refused(fault) => {
-                tell_fault(fault, err);
+            Ending::Refused(line) => {
+                let _ = put_all(err, &line);
                 Status::BadProgram
             }
         }
@@ -74,15 +74,25 @@ fn answer<K: Sink>(alloc: Global, input: &[u8], out: &mut K) -> Ending
     ensures names { Names (Some input.now) result }
     ensures read { IsRead (status_of result) ⊎ (status_of result ≡ Status.NoMemory) }
 {
-    let lines = match judge(alloc, input) {
-        Ok(lines) => lines,
-        Err(JudgeStop::Fault(fault)) => return Ending::Refused(fault),
+    let (judged, lines) = match judge(alloc, input) {
+        Ok(accepted) => accepted,
+        Err(JudgeStop::Fault(fault)) => return refuse(alloc, &fault),
         Err(JudgeStop::Memory) => return Ending::Ends(Status::NoMemory),
     };
-    match play_lines(alloc, lines, out) {
+    match play_lines(alloc, judged, lines, out) {
         Ok(false) => Ending::Ends(Status::Done),
         Ok(true) => Ending::Ends(Status::DoneWithRefusals),
         Err(Stop::Write) => Ending::Ends(Status::WriteFault),
         Err(Stop::Memory) => Ending::Ends(Status::NoMemory),
+    }
+}
+
+// The ending of a program with this fault.
+fn refuse(alloc: Global, fault: &ProgramFault) -> Ending
+    ensures { Refuses fault.now result }
+{
+    match fault_line(alloc, fault) {
+        Ok(line) => Ending::Refused(line),
+        Err(_) => Ending::Ends(Status::NoMemory),
     }
 }

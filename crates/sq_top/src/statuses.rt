@@ -14,7 +14,7 @@ pub enum Status {
     Usage = 2,
     /// The whole output was written, and a tick was refused.
     DoneWithRefusals = 3,
-    /// The program text has a fault, or is not the one that is built. Nothing was written.
+    /// The program text has a fault. Nothing was written.
     BadProgram = 4,
     /// A read failed.
     ReadFault = 5,

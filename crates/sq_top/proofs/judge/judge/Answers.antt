@@ -6,10 +6,10 @@ pub returns-then-text-gt-LONGEST_TEXT-clause-refused : goal.returns-then-text-gt
 returns-then-text-gt-LONGEST_TEXT-clause-refused c =
     text_too_long c.args.input.now c.in-Some.text.now c.in-Some.ensures.0 c.in-Some.ensures.1 c.if-text-gt-LONGEST_TEXT.true
 
-pub returns-in_err-judge_text-clause-refused : goal.returns-in_err-judge_text-clause-refused
-returns-in_err-judge_text-clause-refused c =
+pub returns-in_err-judged-clause-refused : goal.returns-in_err-judged-clause-refused
+returns-in_err-judged-clause-refused c =
     let p = err_from_is_err_and c.from_residual.result c.from_residual.ensures.1 in
     rw (p.1, p.2)
-    (text_stop c.args.input.now c.in-Some.text.now c.in_err-judge_text.field-0.0
+    (text_stop c.args.input.now c.in-Some.text.now c.in_err-judged.field-0.0
     (is_text c.args.input.now c.in-Some.text.now c.in-Some.ensures.0 c.in-Some.ensures.1 c.if-text-gt-LONGEST_TEXT.false)
-    c.in_err-judge_text.ensures.refused)
+    c.in_err-judged.ensures.refused)

@@ -3,7 +3,7 @@ use Rattle.sq_top.proofs.Going.{Going_on}
 use Rattle.sq_top.proofs.play.play_lines.Given as goal
 
 abbrev pub invariant-loop-line : goal.invariant-loop-line
-invariant-loop-line g l = Going_on l.lines l.rest (g.K.Sink.taken l.fn.out) (g.K.Sink.taken l.out) (g.K.Sink.faults l.fn.out) (g.K.Sink.faults l.out) l.run
+invariant-loop-line g l = Going_on l.fn.judged.program l.lines l.rest l.number (g.K.Sink.taken l.fn.out) (g.K.Sink.taken l.out) (g.K.Sink.faults l.fn.out) (g.K.Sink.faults l.out) l.run
 
 abbrev pub decreases-loop-line : goal.decreases-loop-line
 decreases-loop-line g l = length l.rest
