@@ -10,6 +10,7 @@ pub mod TypesBlocks
 pub mod TypesCalls
 pub mod TypesFrames
 pub mod TypesStars
+pub mod TypesStarsOnce
 pub mod TypesBare
 pub mod TypesTests
 pub mod TypesBlockLemmas

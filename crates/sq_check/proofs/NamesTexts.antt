@@ -57,7 +57,7 @@ not_true false e = refl
 
 -- ---- the set
 
-abbrev by_bytes : Bor (List ℕ) → Bor (List ℕ) → Ordering
+abbrev pub by_bytes : Bor (List ℕ) → Bor (List ℕ) → Ordering
 by_bytes k x = slice_cmp nat_cmp k.now x.now
 
 -- whether a set has a name
@@ -84,7 +84,7 @@ placed q k x xs rest Equal is more =
     or_again (bytes_eq q x.now) (list_any (λ y. bytes_eq q y.now) xs) ∙ ap (λ t. bytes_eq q t || (bytes_eq q x.now || list_any (λ y. bytes_eq q y.now) xs)) (sym same)
 placed q k x xs rest Greater is more = ap (λ b. bytes_eq q x.now || b) more ∙ or_behind (bytes_eq q k.now) (bytes_eq q x.now) (list_any (λ y. bytes_eq q y.now) xs)
 
-inserted : (q : Text) (keys : List (Bor (List ℕ))) (k : Bor (List ℕ)) → list_any (λ x. bytes_eq q x.now) (insert_key by_bytes keys k) ≡ (bytes_eq q k.now || list_any (λ x. bytes_eq q x.now) keys)
+pub inserted : (q : Text) (keys : List (Bor (List ℕ))) (k : Bor (List ℕ)) → list_any (λ x. bytes_eq q x.now) (insert_key by_bytes keys k) ≡ (bytes_eq q k.now || list_any (λ x. bytes_eq q x.now) keys)
 inserted q [] k = refl
 inserted q (x ∷ xs) k = placed q k x xs (insert_key by_bytes xs k) (by_bytes k x) refl (inserted q xs k)
 

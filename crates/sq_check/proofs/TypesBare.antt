@@ -1,6 +1,5 @@
 -- Columns outside calls that are none of GROUP BY.
-use Rattle.std.proofs.Common.{◌≡◌, ℕ, ◌==◌, Bool, true, false, not, ◌||◌, ◌&&◌, List, [], ◌∷◌, ◌++◌, map, refl, ap, sym, ◌∙◌}
-use Rattle.std.specs.Prelude.{Option, Some, None, option_to_list}
+use Rattle.std.proofs.Common.{◌≡◌, ℕ, Bool, true, false, ◌||◌, ◌&&◌, List, [], ◌∷◌, map, refl, ap, sym, ◌∙◌}
 use Rattle.std.specs.List.{flat_map, filter_map, list_any}
 use Rattle.std.proofs.lemmas.List.Folds.{list_any-append}
 use Rattle.sq_ast.specs.declared.expr.ColRef.{ColRef}
@@ -10,7 +9,7 @@ use Rattle.sq_ast.specs.declared.query.ItemTree.{ItemTree}
 use Rattle.sq_typed.specs.Faults.{item_columns, bare_columns, has_bare_column}
 use Rattle.sq_typed.specs.Leaves.{Leaf, leaves, column_at, exprs_of}
 use Rattle.sq_typed.specs.Scopes.{Scope, number_of}
-use Rattle.sq_typed.specs.Selected.{Chosen, Starred, Written, written_out, chosen, is_grouped, keys}
+use Rattle.sq_typed.specs.Selected.{Chosen, Starred, Written, written_out, keys}
 use Rattle.sq_typed.proofs.TreeEquations.{leaves-Neg, leaves-Number, leaves-Text, leaves-Column}
 use Rattle.sq_check.specs.Scoped.{scoped_by}
 use Rattle.sq_check.specs.TypesBare.{is_bare, bare_leaf, bare_expr, bare_item}

@@ -1,9 +1,8 @@
 -- The typed block of a frame.
-use Rattle.std.proofs.Common.{◌≡◌, ◌<◌, ℕ, ◌+◌, Bool, List, ◌++◌, ◌∷◌, [], map, length, get_or, take, ap, sym, ◌∙◌}
+use Rattle.std.proofs.Common.{◌≡◌, ◌<◌, ℕ, ◌+◌, List, ◌++◌, map, length, get_or, take, ap, sym, ◌∙◌}
 use Rattle.std.specs.Prelude.{if◌then◌else◌, Option, Some, None, option_map}
 use Rattle.std.specs.List.{flat_map}
 use Rattle.std.proofs.lemmas.List.{map-append}
-use Rattle.sq_ast.specs.declared.cond.CondTree.{CondTree}
 use Rattle.sq_ast.specs.declared.query.BlockTree.{BlockTree, out-BlockTree}
 use Rattle.sq_ast.specs.declared.query.ItemTree.{ItemTree}
 use Rattle.sq_expr.specs.declared.cond.Cond.{Cond}
@@ -11,11 +10,10 @@ use Rattle.sq_expr.specs.declared.expr.Expr.{Expr}
 use Rattle.sq_typed.specs.declared.query.Block.{roll-Block}
 use Rattle.sq_typed.specs.declared.query.FromItem.{FromItem}
 use Rattle.sq_typed.specs.declared.query.Grouping.{Grouping}
-use Rattle.sq_typed.specs.declared.query.Query.{Query}
 use Rattle.sq_typed.specs.declared.query.Query.TheVariants as query
-use Rattle.sq_typed.specs.Numbered.{row_cond, replaced_cond}
+use Rattle.sq_typed.specs.Numbered.{row_cond}
 use Rattle.sq_typed.specs.Scopes.{Scope}
-use Rattle.sq_typed.specs.Selected.{Chosen, written_out, chosen, keys, block_calls, is_grouped, grouping, group_cond, item_expr}
+use Rattle.sq_typed.specs.Selected.{Chosen, written_out, chosen, keys, block_calls, is_grouped, grouping}
 use Rattle.sq_check.specs.Scoped.{scoped_by}
 use Rattle.sq_check.specs.TypesBlockForms.{block_over, frame_grouping}
 use Rattle.sq_check.specs.TypesFrames.{IsFrame, frame_item}

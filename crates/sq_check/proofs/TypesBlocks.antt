@@ -3,7 +3,6 @@ use Rattle.std.proofs.Common.{◌≡◌, ℕ, suc, ◌+◌, Bool, true, false, �
 use Rattle.std.specs.Prelude.{Option, Some, None, is_some, if◌then◌else◌, bytes_eq, option_to_list, take}
 use Rattle.std.specs.List.{flat_map, filter_map, cons_option, list_any}
 use Rattle.std.proofs.lemmas.List.Folds.{list_any-append}
-use Rattle.std.proofs.lemmas.List.Elements.{filter_map-append}
 use Rattle.std.proofs.lemmas.Grind.{flat_map-append}
 use Rattle.sq_ast.specs.declared.cond.CondTree.{CondTree}
 use Rattle.sq_ast.specs.declared.query.BlockTree.{BlockTree, out-BlockTree}
@@ -14,12 +13,12 @@ use Rattle.sq_ast.specs.declared.query.JoinTree.TheVariants as join
 use Rattle.sq_ast.specs.declared.query.JoinedTree.{JoinedTree, out-JoinedTree}
 use Rattle.sq_catalog.specs.declared.relation.Column.{Column}
 use Rattle.sq_typed.specs.Faults.{has_nested_aggregate}
-use Rattle.sq_typed.specs.Leaves.{CallTree, Leaf, Plain, Called, leaves, call_at, is_call, has_call, is_nested, exprs_in, exprs_of}
+use Rattle.sq_typed.specs.Leaves.{Leaf, leaves, call_at, is_call, has_call, is_nested, exprs_in, exprs_of}
 use Rattle.sq_typed.specs.Resolved.{on_cond}
-use Rattle.sq_typed.specs.Scopes.{Named, Scope, Text}
-use Rattle.sq_typed.specs.Selected.{Scoped, Chosen, Starred, starred, starred_from, written_out, chosen, item_leaves, list_leaves, has_group, is_grouped}
+use Rattle.sq_typed.specs.Scopes.{Scope, Text}
+use Rattle.sq_typed.specs.Selected.{starred, starred_from, written_out, item_leaves, has_group, is_grouped}
 use Rattle.sq_check.specs.Scoped.{ons_from, scoped_by}
-use Rattle.sq_check.specs.TypesLeaves.{nests, leaves_of_item, has_nested_call, item_has_call, item_nests, join_has_call, groups, calls_in_rows, calls_nest}
+use Rattle.sq_check.specs.TypesLeaves.{nests, leaves_of_item, item_has_call, item_nests, join_has_call, groups, calls_in_rows, calls_nest}
 use Rattle.sq_check.proofs.TypesTrees.{any_flat, or_false}
 
 -- ---- leaves of the select list

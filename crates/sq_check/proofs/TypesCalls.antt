@@ -1,15 +1,12 @@
 -- The calls that stand in leaves, each once.
-use Rattle.std.proofs.Common.{◌≡◌, ◌<◌, ℕ, zero, suc, ◌+◌, Bool, true, false, not, List, [], ◌∷◌, ◌++◌, map, fold, length, get_or, take, refl, ap, sym, ◌∙◌}
-use Rattle.std.specs.Prelude.{Option, Some, None, position, is_none, IsTrue, ◌↔◌}
-use Rattle.std.specs.List.{flat_map, filter_map, list_any}
-use Rattle.std.proofs.lemmas.Grind.{flat_map-append, fold-append}
+use Rattle.std.proofs.Common.{◌≡◌, ◌<◌, ℕ, ◌+◌, List, ◌++◌, map, fold, length, get_or, take, ap, sym, ◌∙◌}
+use Rattle.std.specs.List.{flat_map, filter_map}
+use Rattle.std.proofs.lemmas.Grind.{fold-append}
 use Rattle.std.proofs.lemmas.List.Elements.{filter_map-append}
-use Rattle.sq_expr.specs.declared.expr.Expr.{Expr}
-use Rattle.sq_expr.specs.Same.{is_same_expr}
 use Rattle.sq_expr.proofs.SameLemmas.{decided}
 use Rattle.sq_typed.specs.declared.query.BlockCall.{BlockCall}
 use Rattle.sq_typed.specs.Leaves.{Leaf, call_at}
-use Rattle.sq_typed.specs.Numbered.{typed_call, is_same_call}
+use Rattle.sq_typed.specs.Numbered.{typed_call}
 use Rattle.sq_typed.specs.Scopes.{Scope}
 use Rattle.sq_check.specs.TypesGroups.{keep_call, with_calls}
 use Rattle.sq_check.proofs.TypesTrees.{append_empty}

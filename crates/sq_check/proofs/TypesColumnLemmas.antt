@@ -1,23 +1,19 @@
 -- Counts and fronts of lists of columns.
-use Rattle.std.proofs.Common.{◌≡◌, ◌<◌, ◌≤◌, ℕ, zero, suc, ◌+◌, ◌-◌, Bool, true, false, ◌||◌, cond, nat_lt, List, [], ◌∷◌, ◌++◌, map, length, get_or, take, drop, refl, ap, sym, ◌∙◌, append_assoc, length-append, arith}
-use Rattle.std.specs.Prelude.{if◌then◌else◌, bytes_eq}
+use Rattle.std.proofs.Common.{◌≡◌, ◌<◌, ℕ, zero, suc, ◌+◌, ◌-◌, Bool, true, false, ◌||◌, List, [], ◌∷◌, ◌++◌, map, length, get_or, take, drop, refl, ap, sym, ◌∙◌, length-append, arith}
+use Rattle.std.specs.Prelude.{bytes_eq}
 use Rattle.std.specs.List.{flat_map, list_any}
-use Rattle.std.proofs.lemmas.Bool.Decides.{nat_tests}
-use Rattle.std.proofs.lemmas.List.{take_more, map-append}
+use Rattle.std.proofs.lemmas.List.{map-append}
 use Rattle.std.proofs.lemmas.List.Folds.{list_any-append}
 use Rattle.std.proofs.lemmas.Grind.{flat_map-append}
 use Rattle.sq_ast.specs.declared.query.ItemTree.{ItemTree}
-use Rattle.sq_ast.specs.declared.query.ItemTree.TheVariants as item
 use Rattle.sq_catalog.specs.declared.relation.Column.{Column}
 use Rattle.sq_typed.specs.Faults.{names}
 use Rattle.sq_typed.specs.Scopes.{Named, Scope, Text, columns_in, repeats}
 use Rattle.sq_typed.specs.Selected.{Chosen, starred, starred_from, written_out}
-use Rattle.sq_check.specs.TypesColumns.{up_to, picked_count}
-use Rattle.sq_check.specs.TypesItems.{picks, chosen_of}
-use Rattle.sq_check.specs.declared.chosen.ListItem.{ListItem}
-use Rattle.sq_check.proofs.TypesTrees.{append_empty}
+use Rattle.sq_check.specs.TypesColumns.{up_to}
+use Rattle.sq_check.specs.TypesItems.{starred_at}
 use Rattle.sq_check.proofs.TypesLists.{flat_more}
-use Rattle.sq_check.proofs.TypesStars.{more_starred}
+use Rattle.sq_check.proofs.TypesStars.{columns_here}
 use Rattle.sq_check.proofs.TypesBlockLemmas.{more_items}
 
 -- ---- counts
@@ -26,21 +22,30 @@ length_from : (n : ℕ) (cs : List Column) → length (starred_from n cs) ≡ le
 length_from n [] = refl
 length_from n (c ∷ cs) = ap suc (length_from (suc n) cs)
 
-length_picked : (b : Bool) (n : ℕ) (cs : List Column) → length (if b then starred_from n cs else []) ≡ (if b then length cs else 0)
-length_picked true n cs = length_from n cs
-length_picked false n cs = refl
+length_all : (begin : ℕ) (ss : Scope) → length (starred (λ name. true) begin ss) ≡ length (columns_in ss)
+length_all begin [] = refl
+length_all begin (s ∷ ss) =
+    length-append (starred_from begin s.columns) (starred (λ name. true) (begin + length s.columns) ss)
+    ∙ ((λ i. length_from begin s.columns i + length_all (begin + length s.columns) ss i)
+    ∙ sym (length-append s.columns (columns_in ss)))
 
-pub more_count : (item : ItemTree) (ss : Scope) (i : ℕ) (s : Named) (before more after : ℕ) → i < length ss → s ≡ get_or ss i s → before ≡ length (starred (picks item) 0 (take i ss)) → more ≡ picked_count item s → after ≡ before + more → after ≡ length (starred (picks item) 0 (take (i + 1) ss))
-more_count item ss i s before more after below is was picked both =
-    both ∙ (ap (λ n. n + more) was ∙ (ap (λ n. length (starred (picks item) 0 (take i ss)) + n) (picked ∙ sym (length_picked (picks item s.name) (length (columns_in (take i ss))) s.columns))
-    ∙ (sym (length-append (starred (picks item) 0 (take i ss)) (if picks item s.name then starred_from (length (columns_in (take i ss))) s.columns else []))
-    ∙ ap length (sym (more_starred (picks item) ss i s below is)))))
+whole : {A : Type 0} (xs : List A) → take (length xs) xs ≡ xs
+whole [] = refl
+whole (x ∷ xs) = ap (λ ys. x ∷ ys) (whole xs)
 
-pub more_items_count : (scope : Scope) (items : List ItemTree) (i : ℕ) (item : ItemTree) (before more after : ℕ) → i < length items → item ≡ get_or items i item → before ≡ length (flat_map (written_out scope) (take i items)) → more ≡ length (written_out scope item) → after ≡ before + more → after ≡ length (flat_map (written_out scope) (take (i + 1) items))
-more_items_count scope items i item before more after below is was here both =
-    both ∙ (ap (λ n. n + more) was ∙ (ap (λ n. length (flat_map (written_out scope) (take i items)) + n) here
-    ∙ (sym (length-append (flat_map (written_out scope) (take i items)) (written_out scope item))
-    ∙ ap length (ap (λ j. flat_map (written_out scope) (take i items) ++ written_out scope j) is ∙ sym (flat_more (written_out scope) items i item below)))))
+-- all columns are counted by where they end
+pub star_count : (ss : Scope) (n end : ℕ) → n ≡ length ss → end ≡ length (columns_in (take n ss)) → end ≡ length (starred (λ name. true) 0 ss)
+star_count ss n end all is = is ∙ (ap (λ k. length (columns_in (take k ss))) all ∙ (ap (λ ts. length (columns_in ts)) (whole ss) ∙ sym (length_all 0 ss)))
+
+pub count_at : (ss : Scope) (i : ℕ) (s : Named) → i < length ss → s ≡ get_or ss i s → length s.columns ≡ length (starred_at ss i)
+count_at ss i s below is = sym (length_from (length (columns_in (take i ss))) (get_or (map (λ s. s.columns) ss) i []) ∙ ap length (columns_here ss i s below is))
+
+-- a loop that counts what each member stands for
+pub more_count : {A B : Type 0} (f : A → List B) (xs : List A) (i : ℕ) (x : A) (before more after : ℕ) → i < length xs → x ≡ get_or xs i x → before ≡ length (flat_map f (take i xs)) → more ≡ length (f x) → after ≡ before + more → after ≡ length (flat_map f (take (i + 1) xs))
+more_count f xs i x before more after below is was here both =
+    both ∙ (ap (λ n. n + more) was ∙ (ap (λ n. length (flat_map f (take i xs)) + n) here
+    ∙ (sym (length-append (flat_map f (take i xs)) (f x))
+    ∙ ap length (ap (λ y. flat_map f (take i xs) ++ f y) is ∙ sym (flat_more f xs i x below)))))
 
 -- ---- fronts
 

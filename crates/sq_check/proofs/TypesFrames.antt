@@ -1,23 +1,18 @@
 -- What a frame says of a block.
-use Rattle.std.proofs.Common.{◌≡◌, ℕ, suc, ◌+◌, Bool, true, false, List, [], ◌∷◌, ◌++◌, map, length, refl, ap, sym, ◌∙◌}
-use Rattle.std.specs.Prelude.{Option, if◌then◌else◌, unwrap_or, position}
+use Rattle.std.proofs.Common.{◌≡◌, ℕ, suc, ◌+◌, Bool, true, List, [], ◌∷◌, ◌++◌, map, length, refl, ap, sym, ◌∙◌}
+use Rattle.std.specs.Prelude.{if◌then◌else◌, unwrap_or, position}
 use Rattle.std.specs.List.{flat_map}
-use Rattle.sq_ast.specs.declared.cond.CondTree.{CondTree}
 use Rattle.sq_ast.specs.declared.expr.ExprTree.{ExprTree}
 use Rattle.sq_ast.specs.declared.query.BlockTree.{BlockTree, out-BlockTree}
-use Rattle.sq_catalog.specs.declared.relation.Column.{Column}
-use Rattle.sq_expr.specs.declared.cond.Cond.{Cond}
-use Rattle.sq_expr.specs.declared.expr.Expr.{Expr}
 use Rattle.sq_expr.specs.declared.expr.Expr.TheVariants as expr
 use Rattle.sq_expr.specs.declared.expr.Kind.{Kind}
-use Rattle.sq_typed.specs.declared.query.BlockCall.{BlockCall}
 use Rattle.sq_typed.specs.Leaves.{leaves, exprs_of}
 use Rattle.sq_typed.specs.Numbered.{row_expr, replaced, typed_call, is_same_call, kind_of}
 use Rattle.sq_typed.specs.Scopes.{Scope, number_of, kinds_in}
-use Rattle.sq_typed.specs.Selected.{Scoped, Chosen, Starred, Written, item_leaves, list_leaves, having_leaves, written_out, is_grouped, keys, block_calls, key_place, call_place, group_expr, group_cond, group_kinds, item_expr, item_kinds, item_name, item_column}
+use Rattle.sq_typed.specs.Selected.{Scoped, Chosen, Starred, Written, is_grouped, keys, block_calls, key_place, group_expr, group_kinds, item_expr, item_kinds, item_name, item_column}
 use Rattle.sq_check.specs.Scoped.{scoped_by}
-use Rattle.sq_check.specs.TypesFrames.{IsFrame, frame_place, frame_expr, frame_kinds, frame_item, frame_column}
-use Rattle.sq_check.specs.TypesGroups.{with_calls, place_of_key, place_of_call, over_group, over_group_cond, key_kinds, call_kinds}
+use Rattle.sq_check.specs.TypesFrames.{IsFrame, frame_place, frame_kinds, frame_item, frame_column}
+use Rattle.sq_check.specs.TypesGroups.{with_calls, place_of_key, over_group, key_kinds, call_kinds}
 use Rattle.sq_check.specs.TypesLeaves.{leaves_of_item, groups}
 use Rattle.sq_check.specs.declared.frame.Frame.{Frame}
 use Rattle.sq_check.specs.declared.grouped.Groups.{Groups}

@@ -1,19 +1,19 @@
 -- The columns that stars stand for.
-use Rattle.std.proofs.Common.{◌≡◌, ◌<◌, ℕ, zero, suc, ◌+◌, Bool, true, false, ◌&&◌, ◌||◌, List, [], ◌∷◌, ◌++◌, map, length, get_or, take, refl, ap, sym, ◌∙◌, append_assoc, length-append, arith}
-use Rattle.std.specs.Prelude.{if◌then◌else◌, Option}
-use Rattle.std.specs.List.{list_any}
-use Rattle.std.proofs.lemmas.List.{take_more}
+use Rattle.std.proofs.Common.{◌≡◌, ◌<◌, ℕ, zero, suc, ◌+◌, Bool, true, false, List, [], ◌∷◌, ◌++◌, map, length, get_or, take, refl, ap, sym, ◌∙◌, append_assoc, length-append, arith}
+use Rattle.std.specs.Prelude.{if◌then◌else◌, Option, bytes_eq}
+use Rattle.std.specs.List.{flat_map}
+use Rattle.std.proofs.lemmas.Grind.{flat_map-append}
+use Rattle.std.proofs.lemmas.List.{take_more, map-append}
 use Rattle.sq_ast.specs.declared.expr.ExprTree.{ExprTree}
 use Rattle.sq_ast.specs.declared.query.ItemTree.{ItemTree}
 use Rattle.sq_ast.specs.declared.query.ItemTree.TheVariants as item
 use Rattle.sq_catalog.specs.declared.relation.Column.{Column}
 use Rattle.sq_typed.specs.Scopes.{Named, Scope, Text, columns_in}
 use Rattle.sq_typed.specs.Selected.{Starred, Written, starred, starred_from, written_out}
-use Rattle.sq_check.specs.TypesItems.{chosen_of, picks, is_star, others}
+use Rattle.sq_check.specs.NamesIndex.{named_from}
+use Rattle.sq_check.specs.TypesItems.{chosen_of, starred_at}
 use Rattle.sq_check.specs.declared.chosen.ListItem.{ListItem}
-use Rattle.std.proofs.lemmas.List.{map-append}
 use Rattle.sq_check.proofs.TypesTrees.{append_empty}
-use Rattle.sq_check.proofs.TypesLists.{flat_more}
 
 no_more : (n : ℕ) → n ≡ n + 0
 no_more n = omega arith
@@ -30,12 +30,6 @@ wider begin n m k is = omega arith
 -- an item that is no star
 pub from_written : (scope : Scope) (i : ItemTree) (e : ExprTree) (alias : Option Text) → i ≡ item.Expr e alias → Written e alias ∷ [] ≡ written_out scope i
 from_written scope i e alias is = ap (written_out scope) (sym is)
-
-pub from_star : (scope : Scope) (i : ItemTree) → i ≡ item.Star → starred (picks i) 0 scope ≡ written_out scope i
-from_star scope i is = ap (λ j. starred (picks j) 0 scope) is ∙ ap (written_out scope) (sym is)
-
-pub from_star_of : (scope : Scope) (i : ItemTree) (of : Text) → i ≡ item.StarOf of → starred (picks i) 0 scope ≡ written_out scope i
-from_star_of scope i of is = ap (λ j. starred (picks j) 0 scope) is ∙ ap (written_out scope) (sym is)
 
 starred_append : (test : Text → Bool) (begin : ℕ) (ss ts : Scope) → starred test begin (ss ++ ts) ≡ starred test begin ss ++ starred test (begin + length (columns_in ss)) ts
 starred_append test begin [] ts = ap (λ n. starred test n ts) (no_more begin)
@@ -69,13 +63,7 @@ more_starred test ss i s below is =
     ∙ (ap (λ n. starred test 0 (take i ss) ++ starred test n (s ∷ [])) (none_before (length (columns_in (take i ss))))
     ∙ ap (λ is. starred test 0 (take i ss) ++ is) (append_empty (if test s.name then starred_from (length (columns_in (take i ss))) s.columns else [])))))
 
-pub more_columns : (ss : Scope) (i : ℕ) (s : Named) → i < length ss → s ≡ get_or ss i s → length (columns_in (take (i + 1) ss)) ≡ length (columns_in (take i ss)) + length s.columns
-more_columns ss i s below is =
-    ap length (flat_more (λ s. s.columns) ss i s below)
-    ∙ (length-append (columns_in (take i ss)) (get_or ss i s).columns
-    ∙ ap (λ t. length (columns_in (take i ss)) + length t.columns) (sym is))
-
--- what a loop has behind a further column, and behind those of a further source
+-- what a loop has behind a further column
 pub pushed : (begin : ℕ) (cs : List Column) (i : ℕ) (c : Column) (items after : List ListItem) (x : ListItem) → after ≡ items ++ x ∷ [] → map chosen_of items ≡ starred_from begin (take i cs) → chosen_of x ≡ Starred (begin + i) c → i < length cs → c ≡ get_or cs i c → map chosen_of after ≡ starred_from begin (take (i + 1) cs)
 pushed begin cs i c items after x pushing was what below is =
     ap (map chosen_of) pushing
@@ -84,43 +72,80 @@ pushed begin cs i c items after x pushing was what below is =
     ∙ (ap (λ y. starred_from begin (take i cs) ++ y ∷ []) what
     ∙ sym (more_from begin cs i c below is))))
 
-pub appended : (item : ItemTree) (ss : Scope) (i : ℕ) (s : Named) (begin : ℕ) (items after more : List ListItem) → after ≡ items ++ more → map chosen_of items ≡ starred (picks item) 0 (take i ss) → map chosen_of more ≡ (if picks item s.name then starred_from begin s.columns else []) → begin ≡ length (columns_in (take i ss)) → i < length ss → s ≡ get_or ss i s → map chosen_of after ≡ starred (picks item) 0 (take (i + 1) ss)
-appended item ss i s begin items after more adding was what at below is =
+-- ---- the columns of the source at a place
+
+pub columns_here : (ss : Scope) (i : ℕ) (s : Named) → i < length ss → s ≡ get_or ss i s → get_or (map (λ s. s.columns) ss) i [] ≡ s.columns
+columns_here [] i s below is = absurd (omega arith)
+columns_here (t ∷ ts) zero s below is = ap (λ s. s.columns) (sym is)
+columns_here (t ∷ ts) (suc i) s below is = columns_here ts i s (omega arith) is
+
+nobody : Named
+nobody = record { name = []; columns = [] }
+
+get_in : {A : Type 0} (xs : List A) (i : ℕ) (d e : A) → i < length xs → get_or xs i d ≡ get_or xs i e
+get_in [] i d e below = absurd (omega arith)
+get_in (x ∷ xs) zero d e below = refl
+get_in (x ∷ xs) (suc i) d e below = get_in xs i d e (omega arith)
+
+-- what a loop over all sources has behind those of a further one
+pub appended : (ss : Scope) (i : ℕ) (items after more : List ListItem) → i < length ss → after ≡ items ++ more → map chosen_of items ≡ starred (λ name. true) 0 (take i ss) → map chosen_of more ≡ starred_at ss i → map chosen_of after ≡ starred (λ name. true) 0 (take (i + 1) ss)
+appended ss i items after more below adding was what =
     ap (map chosen_of) adding
     ∙ (map-append chosen_of items more
-    ∙ (ap (λ is. is ++ map chosen_of more) was
-    ∙ (ap (λ is. starred (picks item) 0 (take i ss) ++ is) what
-    ∙ (ap (λ n. starred (picks item) 0 (take i ss) ++ (if picks item s.name then starred_from n s.columns else [])) at
-    ∙ sym (more_starred (picks item) ss i s below is)))))
+    ∙ ((λ j. was j ++ what j)
+    ∙ (ap (λ cs. starred (λ name. true) 0 (take i ss) ++ starred_from (length (columns_in (take i ss))) cs) (columns_here ss i (get_or ss i nobody) below (get_in ss i nobody (get_or ss i nobody) below))
+    ∙ sym (more_starred (λ name. true) ss i (get_or ss i nobody) below (get_in ss i nobody (get_or ss i nobody) below)))))
 
--- ---- plain stars apart from the other items
+-- ---- the sources of a name
 
-star_first : (a g b r : Bool) → ((a && g) || b) ≡ r → ((true && g) || b) ≡ (g || r)
-star_first a true b r e = refl
-star_first true false b r e = e
-star_first false false b r e = e
+front_of : {A : Type 0} (xs ys : List A) → take (length xs) (xs ++ ys) ≡ xs
+front_of [] ys = refl
+front_of (x ∷ xs) ys = ap (λ zs. x ∷ zs) (front_of xs ys)
 
-other_first : (x h b r : Bool) → (x || b) ≡ r → (x || (h || b)) ≡ (h || r)
-other_first x true b r e = either x
-  where
-    either : (x : Bool) → (x || true) ≡ true
-    either true = refl
-    either false = refl
-other_first true false b r e = e
-other_first false false b r e = e
+placed_at : (pre ss : Scope) (s : Named) → get_or (map (λ s. s.columns) (pre ++ s ∷ ss)) (length pre) [] ≡ s.columns
+placed_at [] ss s = refl
+placed_at (p ∷ ps) ss s = placed_at ps ss s
 
-pub stars_apart : (test : ItemTree → Bool) (items : List ItemTree) → ((list_any is_star items && test item.Star) || list_any (others test) items) ≡ list_any test items
-stars_apart test [] = refl
-stars_apart test (item.Star ∷ is) = star_first (list_any is_star is) (test item.Star) (list_any (others test) is) (list_any test is) (stars_apart test is)
-stars_apart test (item.StarOf of ∷ is) = other_first (list_any is_star is && test item.Star) (test (item.StarOf of)) (list_any (others test) is) (list_any test is) (stars_apart test is)
-stars_apart test (item.Expr e alias ∷ is) = other_first (list_any is_star is && test item.Star) (test (item.Expr e alias)) (list_any (others test) is) (list_any test is) (stars_apart test is)
+at_its_place : (pre ss : Scope) (s : Named) → starred_at (pre ++ s ∷ ss) (length pre) ≡ starred_from (length (columns_in pre)) s.columns
+at_its_place pre ss s = (λ i. starred_from (length (columns_in (front_of pre (s ∷ ss) i))) (placed_at pre ss s i))
 
--- the two answers together
-pub both_answers : (test : ItemTree → Bool) (items : List ItemTree) (stars rest : Bool) → stars ≡ (list_any is_star items && test item.Star) → rest ≡ list_any (others test) items → (stars || rest) ≡ list_any test items
-both_answers test items stars rest e f = ap (λ s. s || rest) e ∙ (ap (λ r. (list_any is_star items && test item.Star) || r) f ∙ stars_apart test items)
+its_columns : (pre ss : Scope) (s : Named) (b : Bool) → flat_map (starred_at (pre ++ s ∷ ss)) (if b then length pre ∷ [] else []) ≡ (if b then starred_from (length (columns_in pre)) s.columns else [])
+its_columns pre ss s true = append_empty (starred_at (pre ++ s ∷ ss) (length pre)) ∙ at_its_place pre ss s
+its_columns pre ss s false = refl
 
-pub no_star : (test : ItemTree → Bool) (items : List ItemTree) (found : Bool) → found ≡ list_any is_star items → found ≡ false → false ≡ (list_any is_star items && test item.Star)
-no_star test items found is none = ap (λ a. a && test item.Star) (sym none ∙ is)
+one_behind : (pre : Scope) (s : Named) → length (pre ++ s ∷ []) ≡ suc (length pre)
+one_behind [] s = refl
+one_behind (p ∷ ps) s = ap suc (one_behind ps s)
 
-pub a_star : (test : ItemTree → Bool) (items : List ItemTree) (found answer : Bool) → found ≡ list_any is_star items → found ≡ true → answer ≡ test item.Star → answer ≡ (list_any is_star items && test item.Star)
-a_star test items found answer is some e = e ∙ ap (λ a. a && test item.Star) (sym some ∙ is)
+columns_behind : (pre : Scope) (s : Named) → length (columns_in (pre ++ s ∷ [])) ≡ length (columns_in pre) + length s.columns
+columns_behind pre s = ap length (flat_map-append (λ s. s.columns) pre (s ∷ [])) ∙ (length-append (columns_in pre) (columns_in (s ∷ [])) ∙ ap (λ cs. length (columns_in pre) + length cs) (append_empty s.columns))
+
+named_starred : (pre ss : Scope) (name : Text) → flat_map (starred_at (pre ++ ss)) (named_from (length pre) ss name) ≡ starred (bytes_eq name) (length (columns_in pre)) ss
+named_starred pre [] name = refl
+named_starred pre (s ∷ ss) name =
+    let later : flat_map (starred_at (pre ++ s ∷ ss)) (named_from (suc (length pre)) ss name) ≡ starred (bytes_eq name) (length (columns_in pre) + length s.columns) ss =
+    (λ i. flat_map (starred_at (sym (append_assoc pre (s ∷ []) ss) i)) (named_from (sym (one_behind pre s) i) ss name))
+    ∙ (named_starred (pre ++ s ∷ []) ss name ∙ ap (λ n. starred (bytes_eq name) n ss) (columns_behind pre s)) in
+    flat_map-append (starred_at (pre ++ s ∷ ss)) (if bytes_eq name s.name then length pre ∷ [] else []) (named_from (suc (length pre)) ss name)
+    ∙ (λ i. its_columns pre ss s (bytes_eq name s.name) i ++ later i)
+
+-- its columns are those of the sources of its name, one source after the other
+pub of_name : (ss : Scope) (name : Text) → flat_map (starred_at ss) (named_from 0 ss name) ≡ starred (bytes_eq name) 0 ss
+of_name ss name = named_starred [] ss name
+
+-- the places of a name are places of sources
+inside_with : (source i d n : ℕ) (b : Bool) (rest : List ℕ) → source < n → ((j : ℕ) → j < length rest → get_or rest j d < n) → i < length ((if b then source ∷ [] else []) ++ rest) → get_or ((if b then source ∷ [] else []) ++ rest) i d < n
+inside_with source zero d n true rest here later below = here
+inside_with source (suc i) d n true rest here later below = later i (omega arith)
+inside_with source i d n false rest here later below = later i below
+
+inside : (source : ℕ) (ss : Scope) (name : Text) (i d : ℕ) → i < length (named_from source ss name) → get_or (named_from source ss name) i d < source + length ss
+inside source [] name i d below = absurd (omega arith)
+inside source (s ∷ ss) name i d below = inside_with source i d (source + suc (length ss)) (bytes_eq name s.name) (named_from (suc source) ss name) (omega arith) (λ j within. let e : get_or (named_from (suc source) ss name) j d < suc source + length ss = inside (suc source) ss name j d within in omega arith) below
+
+pub is_inside : (ss : Scope) (name : Text) (named : List ℕ) (i : ℕ) → named ≡ named_from 0 ss name → i < length named → get_or named i 0 < length ss
+is_inside ss name named i are below =
+    let within : i < length (named_from 0 ss name) = omega (arith, ap length are) in
+    let e : get_or (named_from 0 ss name) i 0 < 0 + length ss = inside 0 ss name i 0 within in
+    let f : get_or named i 0 ≡ get_or (named_from 0 ss name) i 0 = ap (λ ns. get_or ns i 0) are in
+    omega arith

@@ -1,15 +1,14 @@
 -- What the tests of types and of bounds say of a block.
 use Rattle.std.proofs.Common.{◌≡◌, ◌<◌, ℕ, suc, ◌+◌, ◌^◌, Bool, true, false, not, ◌||◌, List, [], ◌∷◌, ◌++◌, map, length, get_or, take, refl, ap, sym, ◌∙◌, append_assoc, arith}
-use Rattle.std.specs.Prelude.{nat_le, Option, Some, None, option_to_list, IsTrue, ◌↔◌}
-use Rattle.std.specs.List.{AllByRecursion, flat_map, filter_map, list_any}
+use Rattle.std.specs.Prelude.{nat_le, option_to_list, IsTrue, ◌↔◌}
+use Rattle.std.specs.List.{AllByRecursion, filter_map, list_any}
 use Rattle.std.proofs.lemmas.Bool.Decides.{nat_tests}
 use Rattle.std.proofs.lemmas.List.{take_more, length-take-le}
 use Rattle.std.proofs.lemmas.List.Folds.{list_any-append}
 use Rattle.sq_ast.specs.declared.cond.CondTree.{CondTree}
 use Rattle.sq_ast.specs.declared.query.BlockTree.{BlockTree, out-BlockTree}
-use Rattle.sq_ast.specs.declared.query.ItemTree.{ItemTree}
 use Rattle.sq_ast.specs.declared.query.JoinedTree.{JoinedTree, out-JoinedTree}
-use Rattle.sq_expr.specs.Bounds.{bound_of, parts, cond_parts, IsBounded, IsBoundedCond}
+use Rattle.sq_expr.specs.Bounds.{bound_of, cond_parts, IsBoundedCond}
 use Rattle.sq_expr.specs.declared.cond.Cond.{Cond}
 use Rattle.sq_expr.specs.declared.expr.Expr.{Expr}
 use Rattle.sq_expr.specs.declared.expr.Kind.{Kind}
@@ -18,10 +17,10 @@ use Rattle.sq_typed.specs.Faults.{is_too_wide, sums_text, typed_exprs, typed_con
 use Rattle.sq_typed.specs.Numbered.{row_cond, replaced_cond}
 use Rattle.sq_typed.specs.Resolved.{on_cond}
 use Rattle.sq_typed.specs.Scopes.{Scope, kinds_in}
-use Rattle.sq_typed.specs.Selected.{Scoped, Chosen, written_out, chosen, item_kinds, item_expr, block_calls, keys, group_kinds, group_expr, group_cond}
+use Rattle.sq_typed.specs.Selected.{Chosen, written_out, chosen, item_kinds, item_expr, block_calls, keys, group_kinds, group_cond}
 use Rattle.sq_check.specs.Scoped.{ons_from, scoped_by}
-use Rattle.sq_check.specs.TypesFrames.{IsFrame, frame_item, frame_kinds}
-use Rattle.sq_check.specs.TypesGroups.{over_group, over_group_cond}
+use Rattle.sq_check.specs.TypesFrames.{IsFrame, frame_item}
+use Rattle.sq_check.specs.TypesGroups.{over_group_cond}
 use Rattle.sq_check.specs.TypesTests.{fails, cond_fails, item_fails, call_fails, on_fails, having_fails, exprs_fail, conds_fail}
 use Rattle.sq_check.specs.declared.frame.Frame.{Frame}
 use Rattle.sq_check.specs.declared.testing.Test.{Test}

@@ -1,7 +1,7 @@
 -- Tests of the leaves of an expression and of the expressions in a condition, one equation for each form.
 use Rattle.std.proofs.Common.{◌≡◌, ℕ, Bool, true, false, ◌||◌, List, [], ◌∷◌, ◌++◌, map, get_or, refl, ap, sym, ◌∙◌}
 use Rattle.std.specs.Prelude.{Option, Some, None, option_to_list}
-use Rattle.std.specs.List.{flat_map, filter_map, list_any}
+use Rattle.std.specs.List.{flat_map, list_any}
 use Rattle.std.proofs.lemmas.List.Folds.{list_any-append, flat_map-map}
 use Rattle.std.proofs.lemmas.Grind.{flat_map-append}
 use Rattle.sq_ast.specs.declared.cond.CmpTree.{CmpTree}
@@ -22,7 +22,7 @@ use Rattle.sq_expr.specs.declared.expr.Kind.TheVariants.{Bigint}
 use Rattle.sq_expr.specs.declared.expr.Expr.TheVariants as expr
 use Rattle.sq_expr.specs.declared.expr.Term.{Term, roll-Term}
 use Rattle.sq_typed.specs.Numbered.{replaced, kind_of, kind_step}
-use Rattle.sq_typed.specs.Leaves.{CallTree, Leaf, Plain, Called, leaves, exprs_in}
+use Rattle.sq_typed.specs.Leaves.{CallTree, Leaf, Called, leaves, exprs_in}
 use Rattle.sq_typed.specs.Leaves.{has_call}
 use Rattle.sq_typed.specs.Scopes.{Text}
 use Rattle.sq_check.specs.TypesLeaves.{nests, cond_leaves}

@@ -1,12 +1,9 @@
 -- Where the sources and the columns of each name stand.
 --     spots_from source begin scope name        the places of its columns.       named_from source scope name        its sources
 use Rattle.std.specs.Prelude.{◌≡◌, ◌<◌, ℕ, suc, ◌+◌, ◌==◌, nat_lt, Bool, false, if◌then◌else◌, List, [], ◌∷◌, ◌++◌, ⊤, map, length, position, bytes_eq, Option, Some, None, String, Vec}
-use Rattle.std.specs.BTreeMap.{BTreeMap, get_by, get_by_text}
-use Rattle.std.specs.Borrow.{Bor}
-use Rattle.std.specs.Cmp.Lexicographic.{slice_cmp}
+use Rattle.std.specs.BTreeMap.{BTreeMap, get_by_text}
 use Rattle.std.specs.List.{AllByRecursion, filter}
 use Rattle.std.specs.Option.{option_map_or}
-use Rattle.std.specs.Ordering.{nat_cmp}
 use Rattle.sq_check.specs.declared.index.Index.{Index}
 use Rattle.sq_check.specs.declared.index.Place.{Place}
 use Rattle.sq_typed.specs.Scopes.{Scope, Text}

@@ -1,6 +1,5 @@
 -- What the items of a block are over, and its items and columns in these terms.
-use Rattle.std.specs.Prelude.{◌≡◌, ℕ, Bool, true, if◌then◌else◌, List, [], unwrap_or}
-use Rattle.sq_ast.specs.declared.cond.CondTree.{CondTree}
+use Rattle.std.specs.Prelude.{◌≡◌, ℕ, true, if◌then◌else◌, List, [], unwrap_or}
 use Rattle.sq_ast.specs.declared.expr.ExprTree.{ExprTree}
 use Rattle.sq_catalog.specs.declared.relation.Column.{Column}
 use Rattle.sq_expr.specs.declared.expr.Expr.{Expr}

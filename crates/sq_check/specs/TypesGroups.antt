@@ -2,7 +2,6 @@
 use Rattle.std.specs.Prelude.{ℕ, ◌+◌, ◌==◌, if◌then◌else◌, List, [], ◌∷◌, ◌++◌, map, fold, length, position, get_or, unwrap_or}
 use Rattle.std.specs.List.{filter_map, list_any}
 use Rattle.sq_ast.specs.declared.cond.CondTree.{CondTree}
-use Rattle.sq_ast.specs.declared.expr.ColRef.{ColRef}
 use Rattle.sq_ast.specs.declared.expr.ExprTree.{ExprTree}
 use Rattle.sq_ast.specs.declared.expr.TermTree.{TermTree}
 use Rattle.sq_expr.specs.declared.cond.Cond.{Cond}

@@ -1,6 +1,6 @@
 -- The tests of types and of bounds that the expressions and conditions of a block have to pass.
 use Rattle.std.specs.Prelude.{Bool, not, ◌||◌, List, is_none, option_to_list}
-use Rattle.std.specs.List.{filter_map, list_any}
+use Rattle.std.specs.List.{list_any}
 use Rattle.sq_ast.specs.declared.cond.CondTree.{CondTree}
 use Rattle.sq_ast.specs.declared.query.BlockTree.{BlockTree, out-BlockTree}
 use Rattle.sq_expr.specs.Bounds.{parts, cond_parts}

@@ -1,18 +1,18 @@
-ghost use Rattle.std.specs.Prelude.{◌≡◌, ◌&&◌, IfOk, map};
+ghost use Rattle.std.specs.Prelude.{◌≡◌, IfOk, map};
 ghost use Rattle.std.specs.List.{list_any};
-ghost use Rattle.sq_ast.specs.declared.query.ItemTree.TheVariants.{Star};
 ghost use Rattle.sq_typed.specs.Faults.{has_bare_column};
 ghost use Rattle.sq_typed.specs.Leaves.{exprs_in, exprs_of};
 ghost use Rattle.sq_typed.specs.Selected.{written_out};
 ghost use Rattle.sq_check.specs.Scoped.{scoped_by};
 ghost use Rattle.sq_check.specs.TypesBare.{bare_expr, bare_item, is_bare};
-ghost use Rattle.sq_check.specs.TypesItems.{chosen_of, is_star, others};
+ghost use Rattle.sq_check.specs.TypesItems.{chosen_of};
 
 use crate::Scope;
-use crate::chosen::{ListItem, chosen, has_star};
+use crate::chosen::{ListItem, chosen};
 use crate::keys::Keys;
 use crate::leaves::is_grouped;
 use crate::row::Row;
+use crate::stars::each_star_once;
 use sq_ast::{BlockTree, CondTree, ExprTree, ItemTree, TermTree};
 use sq_value::NoMemory;
 use std::alloc::Global;
@@ -41,58 +41,26 @@ fn items_are_bare(
 ) -> Result<bool, NoMemory>
     ensures { IfOk result (λ found. found ≡ list_any (λ i. list_any (bare_item row.now keys.now.numbers) (written_out scope.now i)) items.now) }
 {
-    let in_stars = star_is_bare(alloc, scope, row, keys, items)?;
-    let in_others = any_other_is_bare(alloc, scope, row, keys, items)?;
-    Ok(in_stars | in_others)
-}
-
-// A plain star is looked at once, however often it is there: each may stand for many columns.
-fn star_is_bare(
-    alloc: Global,
-    scope: &Scope,
-    row: &Row,
-    keys: &Keys,
-    items: &[ItemTree],
-) -> Result<bool, NoMemory>
-    ensures { IfOk result (λ found. found ≡ (list_any is_star items.now && list_any (bare_item row.now keys.now.numbers) (written_out scope.now Star))) }
-{
-    if !has_star(items) {
-        return Ok(false);
-    }
-    let found = item_is_bare(alloc, scope, row, keys, &ItemTree::Star)?;
+    let told_apart = each_star_once(alloc, items)?;
+    let found = any_item_is_bare(alloc, scope, row, keys, told_apart.as_slice())?;
     Ok(found)
 }
 
-fn any_other_is_bare(
+fn any_item_is_bare(
     alloc: Global,
     scope: &Scope,
     row: &Row,
     keys: &Keys,
-    items: &[ItemTree],
+    items: &[&ItemTree],
 ) -> Result<bool, NoMemory>
-    ensures { IfOk result (λ found. found ≡ list_any (others (λ i. list_any (bare_item row.now keys.now.numbers) (written_out scope.now i))) items.now) }
+    ensures { IfOk result (λ found. found ≡ list_any (λ i. list_any (bare_item row.now keys.now.numbers) (written_out scope.now i.now)) items.now) }
 {
     let mut found = false;
     for item in items {
-        let bare = other_is_bare(alloc, scope, row, keys, item)?;
+        let bare = item_is_bare(alloc, scope, row, keys, *item)?;
         found |= bare;
     }
     Ok(found)
-}
-
-fn other_is_bare(
-    alloc: Global,
-    scope: &Scope,
-    row: &Row,
-    keys: &Keys,
-    item: &ItemTree,
-) -> Result<bool, NoMemory>
-    ensures { IfOk result (λ found. found ≡ others (λ i. list_any (bare_item row.now keys.now.numbers) (written_out scope.now i)) item.now) }
-{
-    match item {
-        ItemTree::Star => Ok(false),
-        ItemTree::StarOf(_) | ItemTree::Expr { .. } => item_is_bare(alloc, scope, row, keys, item),
-    }
 }
 
 fn item_is_bare(

@@ -1,10 +1,9 @@
-ghost use Rattle.std.specs.Prelude.{◌≡◌, ◌+◌, [], ◌∷◌, if◌then◌else◌, IfOk, map};
-ghost use Rattle.std.specs.List.{list_any};
+ghost use Rattle.std.specs.Prelude.{◌≡◌, ◌+◌, ◌<◌, [], ◌∷◌, true, bytes_eq, length, IfOk, map};
 ghost use Rattle.sq_typed.specs.Selected.{starred, starred_from, written_out};
-ghost use Rattle.sq_check.specs.TypesItems.{chosen_of, is_star, picks};
+ghost use Rattle.sq_check.specs.TypesItems.{chosen_of, starred_at};
 
+use crate::Scope;
 use crate::keys::column_number;
-use crate::{Scope, Source};
 use sq_ast::{ExprTree, ItemTree};
 use sq_catalog::Column;
 use sq_value::{NoMemory, Str};
@@ -33,7 +32,8 @@ pub(crate) fn chosen<'a>(
 {
     match item {
         ItemTree::Expr { expr, alias } => single(alloc, ListItem::Written { expr, alias }),
-        ItemTree::Star | ItemTree::StarOf(_) => starred(alloc, scope, item),
+        ItemTree::Star => starred(alloc, scope),
+        ItemTree::StarOf(of) => starred_of(alloc, scope, of),
     }
 }
 
@@ -45,38 +45,44 @@ fn single(alloc: Global, item: ListItem) -> Result<Vec<ListItem>, NoMemory>
     Ok(items)
 }
 
-// The columns that the item stands for where it is a star.
-fn starred<'a>(
-    alloc: Global,
-    scope: &'a Scope<'a>,
-    item: &ItemTree,
-) -> Result<Vec<ListItem<'a>>, NoMemory>
-    ensures { IfOk result (λ items. map chosen_of items.items ≡ starred (picks item.now) 0 scope.now) }
+// The columns of all sources.
+fn starred<'a>(alloc: Global, scope: &'a Scope<'a>) -> Result<Vec<ListItem<'a>>, NoMemory>
+    ensures { IfOk result (λ items. map chosen_of items.items ≡ starred (λ name. true) 0 scope.now) }
 {
     let mut items = Vec::new(alloc);
-    let mut begin = 0;
-    for source in scope.sources() {
-        let mut picked = picked(alloc, item, begin, source)?;
-        items.append(&mut picked)?;
-        begin = sum(begin, source.columns().len())?;
+    for place in 0..scope.len() {
+        let mut more = columns_at(alloc, scope, place)?;
+        items.append(&mut more)?;
     }
     Ok(items)
 }
 
-// The columns of the source, which begin at a number, where the item is a star of it.
-fn picked<'a>(
+// The columns of the sources with this name.
+fn starred_of<'a>(
     alloc: Global,
-    item: &ItemTree,
-    begin: usize,
-    source: &'a Source<'a>,
+    scope: &'a Scope<'a>,
+    name: &Str,
 ) -> Result<Vec<ListItem<'a>>, NoMemory>
-    ensures { IfOk result (λ items. map chosen_of items.items ≡ (if picks item.now source.now.name then starred_from begin source.now.columns else [])) }
+    ensures { IfOk result (λ items. map chosen_of items.items ≡ starred (bytes_eq name.now) 0 scope.now) }
 {
-    if picks(item, source.name()) {
-        numbered(alloc, begin, source.columns())
-    } else {
-        Ok(Vec::new(alloc))
+    let mut items = Vec::new(alloc);
+    for place in scope.named(name) {
+        let mut more = columns_at(alloc, scope, *place)?;
+        items.append(&mut more)?;
     }
+    Ok(items)
+}
+
+// The columns of the source at this place.
+fn columns_at<'a>(
+    alloc: Global,
+    scope: &'a Scope<'a>,
+    place: usize,
+) -> Result<Vec<ListItem<'a>>, NoMemory>
+    requires { place < length scope.now }
+    ensures { IfOk result (λ items. map chosen_of items.items ≡ starred_at scope.now place) }
+{
+    numbered(alloc, scope.begin(place), scope.sources()[place].columns())
 }
 
 // The columns, with their numbers from this one on.
@@ -93,37 +99,6 @@ fn numbered<'a>(
         items.push(ListItem::Starred { number, column })?;
     }
     Ok(items)
-}
-
-/// Whether a plain star is among the items. Takes no memory.
-pub(crate) fn has_star(items: &[ItemTree]) -> bool
-    ensures { result ≡ list_any is_star items.now }
-{
-    let mut found = false;
-    for item in items {
-        found |= is_star(item);
-    }
-    found
-}
-
-fn is_star(item: &ItemTree) -> bool
-    ensures { result ≡ is_star item.now }
-{
-    match item {
-        ItemTree::Star => true,
-        ItemTree::StarOf(_) | ItemTree::Expr { .. } => false,
-    }
-}
-
-// Whether the item is a star of the source with this name.
-pub(crate) fn picks(item: &ItemTree, name: &Str) -> bool
-    ensures { result ≡ picks item.now name.now }
-{
-    match item {
-        ItemTree::Star => true,
-        ItemTree::StarOf(of) => of.as_str() == name.as_str(),
-        ItemTree::Expr { .. } => false,
-    }
 }
 
 // The sum, or `NoMemory` where 64 bits do not hold it.

@@ -1,22 +1,21 @@
-ghost use Rattle.std.specs.Prelude.{◌≡◌, ◌++◌, ◌∷◌, [], if◌then◌else◌, IfOk, MatchOption, OnOk, false, length, map, nat_lt, take, true};
+ghost use Rattle.std.specs.Prelude.{◌≡◌, ◌<◌, ◌++◌, ◌∷◌, [], bytes_eq, if◌then◌else◌, IfOk, MatchOption, OnOk, false, length, map, nat_lt, take, true};
 ghost use Rattle.std.specs.List.{flat_map};
-ghost use Rattle.sq_ast.specs.declared.query.ItemTree.TheVariants.{Star};
 ghost use Rattle.sq_typed.specs.Faults.{has_long_list, names};
 ghost use Rattle.sq_typed.specs.Scopes.{repeats};
 ghost use Rattle.sq_typed.specs.Selected.{block_columns, chosen, starred, written_out};
 ghost use Rattle.sq_check.specs.Scoped.{scoped_by};
-ghost use Rattle.sq_check.specs.TypesColumns.{picked_count, up_to};
+ghost use Rattle.sq_check.specs.TypesColumns.{up_to};
 ghost use Rattle.sq_check.specs.TypesFrames.{frame_column};
-ghost use Rattle.sq_check.specs.TypesItems.{chosen_of, picks};
+ghost use Rattle.sq_check.specs.TypesItems.{chosen_of, starred_at};
 
-use crate::chosen::{ListItem, chosen, picks, sum};
+use crate::Scope;
+use crate::chosen::{ListItem, chosen, sum};
 use crate::frame::Frame;
 use crate::listed::push_columns;
 use crate::repeating::repeats;
-use crate::{Scope, Source};
 use sq_ast::{BlockTree, ItemTree};
 use sq_catalog::Column;
-use sq_value::NoMemory;
+use sq_value::{NoMemory, Str};
 use sqlite_items::Items;
 use std::alloc::Global;
 
@@ -31,47 +30,42 @@ pub fn chosen_count(scope: &Scope, block: &BlockTree) -> Result<u64, NoMemory>
 fn items_count(scope: &Scope, items: &[ItemTree]) -> Result<usize, NoMemory>
     ensures { IfOk result (λ count. count ≡ length (flat_map (written_out scope.now) items.now)) }
 {
-    // Of a plain star once, however often it is there.
-    let whole = star_count(scope, &ItemTree::Star)?;
     let mut count = 0;
     for item in items {
-        let more = item_count(scope, whole, item)?;
+        let more = item_count(scope, item)?;
         count = sum(count, more)?;
     }
     Ok(count)
 }
 
-fn item_count(scope: &Scope, whole: usize, item: &ItemTree) -> Result<usize, NoMemory>
-    requires { whole ≡ length (starred (picks Star) 0 scope.now) }
+fn item_count(scope: &Scope, item: &ItemTree) -> Result<usize, NoMemory>
     ensures { IfOk result (λ count. count ≡ length (written_out scope.now item.now)) }
 {
     match item {
         ItemTree::Expr { .. } => Ok(1),
-        ItemTree::Star => Ok(whole),
-        ItemTree::StarOf(_) => star_count(scope, item),
+        ItemTree::Star => Ok(scope.begin(scope.len())),
+        ItemTree::StarOf(of) => named_count(scope, of),
     }
 }
 
-// The number of columns that the item stands for where it is a star.
-fn star_count(scope: &Scope, item: &ItemTree) -> Result<usize, NoMemory>
-    ensures { IfOk result (λ count. count ≡ length (starred (picks item.now) 0 scope.now)) }
+// The number of columns of the sources with this name.
+fn named_count(scope: &Scope, name: &Str) -> Result<usize, NoMemory>
+    ensures { IfOk result (λ count. count ≡ length (starred (bytes_eq name.now) 0 scope.now)) }
 {
     let mut count = 0;
-    for source in scope.sources() {
-        let more = picked_count(item, source);
+    for place in scope.named(name) {
+        let more = column_count(scope, *place);
         count = sum(count, more)?;
     }
     Ok(count)
 }
 
-fn picked_count(item: &ItemTree, source: &Source) -> usize
-    ensures { result ≡ picked_count item.now source.now }
+// The number of columns of the source at this place.
+fn column_count(scope: &Scope, place: usize) -> usize
+    requires { place < length scope.now }
+    ensures { result ≡ length (starred_at scope.now place) }
 {
-    if picks(item, source.name()) {
-        source.columns().len()
-    } else {
-        0
-    }
+    scope.sources()[place].columns().len()
 }
 
 /// Whether the block has more than 64 items, with stars written out, or more than 16 sources. Takes no memory; `NoMemory` only

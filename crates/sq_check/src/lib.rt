@@ -17,8 +17,6 @@ mod leaves;
 mod listed;
 mod lookup;
 mod names;
-#[cfg(test)]
-mod names_tests;
 mod numbered;
 mod program;
 mod references;
@@ -27,10 +25,9 @@ mod resolve;
 mod row;
 mod scope;
 mod sight;
+mod stars;
 mod statement;
 mod testing;
-#[cfg(test)]
-mod tests;
 mod typed;
 mod typed_block;
 mod widen;

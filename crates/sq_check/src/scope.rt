@@ -1,7 +1,8 @@
-ghost use Rattle.std.specs.Prelude.{◌≡◌, take, length, bytes_eq, IfOk};
+ghost use Rattle.std.specs.Prelude.{◌≡◌, ◌≤◌, take, length, bytes_eq, IfOk};
 ghost use Rattle.std.specs.List.{list_any};
 ghost use Rattle.sq_check.specs.NamesFound.{Sees, columns_of, found_of};
-ghost use Rattle.sq_typed.specs.Scopes.{kinds_in, number_of, places};
+ghost use Rattle.sq_check.specs.NamesIndex.{named_from};
+ghost use Rattle.sq_typed.specs.Scopes.{columns_in, kinds_in, number_of, places};
 
 use crate::Found;
 use crate::index::{Index, indexed, places_of, sources_of};
@@ -132,11 +133,27 @@ impl<'a> Scope<'a> {
         &self.layout.kinds[..end]
     }
 
+    /// Where the columns of the source at this place begin among those of all sources, or, behind the last source, where
+    /// they end. Takes no memory.
+    pub fn begin(&self, place: usize) -> usize
+        requires { place ≤ length self.now }
+        ensures { result ≡ length (columns_in (take place self.now)) }
+    {
+        self.layout.begins[place]
+    }
+
+    /// The places of the sources with this name, in order. Takes no memory.
+    pub fn named(&self, name: &Str) -> &[usize]
+        ensures { result.now ≡ named_from 0 self.now name.now }
+    {
+        sources_of(&self.index.by_name, name.as_str())
+    }
+
     /// Whether a source has this name. Takes no memory.
     pub fn has_source(&self, name: &Str) -> bool
         ensures { result ≡ list_any (λ s. bytes_eq name.now s.name) self.now }
     {
-        !sources_of(&self.index.by_name, name.as_str()).is_empty()
+        !self.named(name).is_empty()
     }
 
     /// The number of the column that the reference means among the columns of so many sources: the first that it finds, and

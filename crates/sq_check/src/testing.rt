@@ -1,21 +1,21 @@
-ghost use Rattle.std.specs.Prelude.{◌≡◌, ◌&&◌, IfOk, map, option_to_list};
+ghost use Rattle.std.specs.Prelude.{◌≡◌, IfOk, map, option_to_list};
 ghost use Rattle.std.specs.List.{list_any};
-ghost use Rattle.sq_ast.specs.declared.query.ItemTree.TheVariants.{Star};
 ghost use Rattle.sq_expr.specs.Typing.{is_numeric};
 ghost use Rattle.sq_typed.specs.Faults.{has_mixed_types, has_wide_expr, sums_text};
 ghost use Rattle.sq_typed.specs.Resolved.{on_cond};
 ghost use Rattle.sq_typed.specs.Selected.{written_out};
 ghost use Rattle.sq_check.specs.Scoped.{ons_from, scoped_by};
-ghost use Rattle.sq_check.specs.TypesItems.{chosen_of, is_star, others};
+ghost use Rattle.sq_check.specs.TypesItems.{chosen_of};
 ghost use Rattle.sq_check.specs.TypesTests.{call_fails, cond_fails, conds_fail, exprs_fail, fails, having_fails, item_fails, on_fails};
 ghost use Rattle.sq_check.specs.declared.testing.Test.TheVariants.{Bounds};
 
 use crate::Scope;
-use crate::chosen::{ListItem, chosen, has_star};
+use crate::chosen::{ListItem, chosen};
 use crate::frame::Frame;
 use crate::grouped::group_cond;
 use crate::numbered::row_cond;
 use crate::row::Row;
+use crate::stars::each_star_once;
 use sq_ast::{BlockTree, CondTree, ItemTree, JoinTree, JoinedTree};
 use sq_expr::{Cond, Expr, Func, Kind, Sort, bound, expr_sort, is_bounded, is_typed};
 use sq_typed::BlockCall;
@@ -77,58 +77,26 @@ fn any_item_fails(
 ) -> Result<bool, NoMemory>
     ensures { IfOk result (λ found. found ≡ list_any (λ i. list_any (item_fails test frame.now) (written_out scope.now i)) items.now) }
 {
-    let in_stars = star_fails(alloc, test, frame, scope, items)?;
-    let in_others = any_other_fails(alloc, test, frame, scope, items)?;
-    Ok(in_stars | in_others)
-}
-
-// A plain star is looked at once, however often it is there: each may stand for many columns.
-fn star_fails(
-    alloc: Global,
-    test: Test,
-    frame: &Frame,
-    scope: &Scope,
-    items: &[ItemTree],
-) -> Result<bool, NoMemory>
-    ensures { IfOk result (λ found. found ≡ (list_any is_star items.now && list_any (item_fails test frame.now) (written_out scope.now Star))) }
-{
-    if !has_star(items) {
-        return Ok(false);
-    }
-    let found = item_fails(alloc, test, frame, scope, &ItemTree::Star)?;
+    let told_apart = each_star_once(alloc, items)?;
+    let found = any_told_item_fails(alloc, test, frame, scope, told_apart.as_slice())?;
     Ok(found)
 }
 
-fn any_other_fails(
+fn any_told_item_fails(
     alloc: Global,
     test: Test,
     frame: &Frame,
     scope: &Scope,
-    items: &[ItemTree],
+    items: &[&ItemTree],
 ) -> Result<bool, NoMemory>
-    ensures { IfOk result (λ found. found ≡ list_any (others (λ i. list_any (item_fails test frame.now) (written_out scope.now i))) items.now) }
+    ensures { IfOk result (λ found. found ≡ list_any (λ i. list_any (item_fails test frame.now) (written_out scope.now i.now)) items.now) }
 {
     let mut found = false;
     for item in items {
-        let fails = other_fails(alloc, test, frame, scope, item)?;
+        let fails = item_fails(alloc, test, frame, scope, *item)?;
         found |= fails;
     }
     Ok(found)
-}
-
-fn other_fails(
-    alloc: Global,
-    test: Test,
-    frame: &Frame,
-    scope: &Scope,
-    item: &ItemTree,
-) -> Result<bool, NoMemory>
-    ensures { IfOk result (λ found. found ≡ others (λ i. list_any (item_fails test frame.now) (written_out scope.now i)) item.now) }
-{
-    match item {
-        ItemTree::Star => Ok(false),
-        ItemTree::StarOf(_) | ItemTree::Expr { .. } => item_fails(alloc, test, frame, scope, item),
-    }
 }
 
 fn item_fails(

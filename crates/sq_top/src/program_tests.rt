@@ -273,9 +273,98 @@ fn faults_of_statements_are_told_by_their_kind(rt: HostRuntime) -> Result<(), Fa
             "CREATE VIEW v AS SELECT SUM(s) AS c FROM t",
             "type mismatch",
         ),
+        (
+            "CREATE VIEW v AS SELECT a FROM t UNION SELECT s FROM t",
+            "type mismatch",
+        ),
+        (
+            "CREATE VIEW v AS SELECT a FROM t WHERE COUNT(*) = 1",
+            "nested aggregate",
+        ),
+        // Stars, also one that stands twice and those of a source alone.
+        (
+            "CREATE VIEW v AS SELECT * FROM t x, t y",
+            "duplicate column",
+        ),
+        ("CREATE VIEW v AS SELECT y.* FROM t x", "unknown column"),
+        (
+            "CREATE VIEW v AS SELECT a FROM t UNION SELECT x.*, x.* FROM t x GROUP BY x.a",
+            "not grouped",
+        ),
+        (
+            "CREATE VIEW v AS SELECT a FROM t UNION SELECT x.*, y.* FROM t x, t y",
+            "column count",
+        ),
     ] {
         second_has(&rt, alloc, statement, kind)?;
     }
+    Ok(())
+}
+
+// Each statement has this kind of fault and the next kind too.
+#[test]
+fn the_first_kind_of_fault_is_told(rt: HostRuntime) -> Result<(), Fail> {
+    let alloc = rt.alloc();
+    for (statement, kind) in [
+        ("CREATE VIEW t AS SELECT a FROM q", "duplicate name"),
+        ("CREATE VIEW v AS SELECT a + 1 FROM q", "unknown relation"),
+        (
+            "CREATE VIEW v AS SELECT a + 1, a, a FROM t",
+            "unnamed column",
+        ),
+        ("CREATE VIEW v AS SELECT a, a, c FROM t", "duplicate column"),
+        (
+            "CREATE VIEW v AS SELECT c, a FROM t x, t y",
+            "unknown column",
+        ),
+        (
+            "CREATE VIEW v AS SELECT a, SUM(SUM(x.a)) AS c FROM t x, t y",
+            "ambiguous column",
+        ),
+        (
+            "CREATE VIEW v AS SELECT a, SUM(SUM(a)) AS c FROM t",
+            "nested aggregate",
+        ),
+        (
+            "CREATE VIEW v AS SELECT a, COUNT(*) AS c FROM t UNION SELECT a FROM t",
+            "not grouped",
+        ),
+        (
+            "CREATE VIEW v AS SELECT a FROM t UNION SELECT s, s FROM t",
+            "column count",
+        ),
+        (
+            "CREATE VIEW v AS SELECT 9223372036854775808 * 9223372036854775808 * 2 AS c FROM t WHERE a = s",
+            "type mismatch",
+        ),
+        (
+            "CREATE VIEW v AS SELECT 9223372036854775808 * 9223372036854775808 * 2 AS z FROM t x,t b,t c,t d,t e,t f,t g,t h,t i,t j,t k,t l,t m,t n,t o,t p,t q",
+            "too wide",
+        ),
+    ] {
+        second_has(&rt, alloc, statement, kind)?;
+    }
+    Ok(())
+}
+
+// So many views behind a table, with an empty statement behind each.
+fn views(alloc: Global, count: usize) -> Result<Vec<u8>, Fail> {
+    let mut text = Vec::from_slice(alloc, b"CREATE TABLE t (a INT);")?;
+    for i in 0..count {
+        let view = format!(in alloc; "CREATE VIEW v{i} AS SELECT a FROM t;;")?;
+        text.extend_from_slice(view.as_bytes())?;
+    }
+    Ok(text)
+}
+
+#[test]
+fn the_257th_statement_is_one_too_many(rt: HostRuntime) -> Result<(), Fail> {
+    let alloc = rt.alloc();
+    let mut most = views(alloc, 255)?;
+    most.extend_from_slice(b"\n---\n")?;
+    ends(&rt, alloc, &most, BLOCK_0, b"", Status::Done)?;
+    let told = b"{\"program\":\"limit\",\"statement\":512}\n";
+    text_is_refused(&rt, alloc, &views(alloc, 256)?, told)?;
     Ok(())
 }
 
@@ -286,6 +375,8 @@ fn statements_without_faults_are_accepted(rt: HostRuntime) -> Result<(), Fail> {
         "CREATE VIEW v AS SELECT 9223372036854775808 * 9223372036854775808 * 1 AS c FROM t",
         "CREATE VIEW v AS SELECT x.a, SUM(y.a + 1) AS c FROM t x LEFT JOIN (SELECT a FROM t) y ON x.a = y.a WHERE x.s <> 'b' GROUP BY x.a HAVING MAX(y.a) > 2",
         "CREATE VIEW v AS SELECT a FROM t EXCEPT (SELECT a FROM t INTERSECT SELECT 1 FROM t)",
+        "CREATE VIEW v AS SELECT y.*, x.a AS b FROM t x, t y WHERE x.s IS NULL",
+        "CREATE VIEW v AS SELECT a, s, a + 1 AS b FROM t UNION SELECT x.*, x.a FROM t x GROUP BY a, s",
     ] {
         second_is_accepted(&rt, alloc, statement.as_bytes())?;
     }
