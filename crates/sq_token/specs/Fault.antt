@@ -4,6 +4,8 @@ use Rattle.std.specs.Char.{is_ascii_digit}
 use Rattle.std.specs.Str.Parse.{IsNumeral, digits_value}
 use Rattle.sq_token.specs.declared.fault.LexFault.{LexFault}
 use Rattle.sq_token.specs.declared.fault.LexFault.TheVariants as faults
+use Rattle.sq_token.specs.declared.fault.Flaw.{Flaw}
+use Rattle.sq_token.specs.declared.fault.Flaw.TheVariants as flaws
 use Rattle.sq_token.specs.declared.token.Token.{Token}
 use Rattle.sq_token.specs.declared.token.TokenKind.{TokenKind}
 use Rattle.sq_token.specs.declared.token.TokenKind.TheVariants as kinds
@@ -51,3 +53,9 @@ HasCause text (faults.OpenText at) = FirstFault text (faults.OpenText at)
 HasCause text (faults.OpenName at) = FirstFault text (faults.OpenName at)
 HasCause text (faults.OpenComment at) = FirstFault text (faults.OpenComment at)
 HasCause text (faults.LongNumber at) = FirstFault text (faults.LongNumber at)
+
+-- the fault that is found without taking memory
+abbrev pub fault_of : Flaw → LexFault
+fault_of (flaws.BadByte at) = faults.BadByte at
+fault_of (flaws.OpenComment at) = faults.OpenComment at
+fault_of (flaws.LongNumber at) = faults.LongNumber at

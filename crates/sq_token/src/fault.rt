@@ -1,5 +1,7 @@
+//! The faults of a text.
 ghost use Rattle.std.specs.Prelude.{◌≡◌};
 ghost use Rattle.sq_token.specs.declared.fault.LexFault.TheVariants.{Memory};
+ghost use Rattle.sq_token.specs.Fault.{fault_of};
 
 use sq_value::NoMemory;
 use std::alloc::{AllocError, AllocFailed};
@@ -19,6 +21,26 @@ pub enum LexFault {
     LongNumber { at: u32 },
     /// Memory ran out. No place in the text is its cause.
     Memory,
+}
+
+/// A fault that is found without taking memory.
+#[derive(Clone, Copy, Debug, PartialEq, Eq)]
+pub(crate) enum Flaw {
+    BadByte { at: u32 },
+    OpenComment { at: u32 },
+    LongNumber { at: u32 },
+}
+
+impl From<Flaw> for LexFault {
+    ghost from_gives = { λ flaw fault. fault ≡ fault_of flaw };
+
+    fn from(flaw: Flaw) -> Self {
+        match flaw {
+            Flaw::BadByte { at } => LexFault::BadByte { at },
+            Flaw::OpenComment { at } => LexFault::OpenComment { at },
+            Flaw::LongNumber { at } => LexFault::LongNumber { at },
+        }
+    }
 }
 
 impl From<AllocError> for LexFault {

@@ -1,12 +1,15 @@
+//! What stands at one place of a text: a token or a gap.
 ghost use Rattle.std.specs.Prelude.{◌≡◌, ◌≢◌, ◌+◌, ◌<◌, ◌≤◌, ◌++◌, ◌^◌, List, ℕ, IsTrue, true, false, length, slice_index, codes, MatchResult, MatchOption};
 ghost use Rattle.std.specs.Option.{SomeIff};
 ghost use Rattle.std.specs.Str.Parse.{IsNumeral, digits_value};
 ghost use Rattle.std.specs.Char.{is_ascii_digit};
 ghost use Rattle.sq_token.specs.Bytes.{starts_word};
 ghost use Rattle.sq_token.specs.Spelling.{greatest_number};
+ghost use Rattle.sq_token.specs.Fault.{fault_of};
 ghost use Rattle.sq_token.specs.Piece.{PieceAt, SymbolAt, HasNoSymbol, Fails};
 
 use crate::bytes::{begins_word, digits_len, is_blank, starts_word, word_len};
+use crate::fault::Flaw;
 use crate::quoted::quoted;
 use crate::symbol::{symbol_of_byte, symbol_of_two};
 use crate::{LexFault, Symbol, TokenKind};
@@ -50,19 +53,19 @@ fn number_of(digits: &str) -> Option<u64>
     }
 }
 
-fn number(at: u32, text: &str) -> Result<Piece, LexFault>
+fn number(at: u32, text: &str) -> Result<Piece, Flaw>
     requires full { 0 < length text.now }
     requires begins { IsTrue (is_ascii_digit (slice_index text.now 0)) }
     requires room { at + length text.now < 2 ^ 32 }
-    ensures { MatchResult result (λ piece. PieceAt text.now piece.len piece.kind) (λ fault. Fails at text.now fault) }
+    ensures { MatchResult result (λ piece. PieceAt text.now piece.len piece.kind) (λ flaw. Fails at text.now (fault_of flaw)) }
 {
     let len = digits_len(text.as_bytes());
     let (digits, rest) = text.split_at(len);
     let Some(number) = number_of(digits) else {
-        return Err(LexFault::LongNumber { at });
+        return Err(Flaw::LongNumber { at });
     };
     if begins_word(rest.as_bytes()) {
-        return Err(LexFault::BadByte {
+        return Err(Flaw::BadByte {
             at: at + len as u32,
         });
     }
@@ -112,12 +115,12 @@ fn line_comment(text: &str, comment: &str) -> Piece
     }
 }
 
-fn block_comment(at: u32, text: &str, comment: &str) -> Result<Piece, LexFault>
+fn block_comment(at: u32, text: &str, comment: &str) -> Result<Piece, Flaw>
     requires opens { text.now ≡ codes "/*" ++ comment.now }
-    ensures { MatchResult result (λ piece. PieceAt text.now piece.len piece.kind) (λ fault. Fails at text.now fault) }
+    ensures { MatchResult result (λ piece. PieceAt text.now piece.len piece.kind) (λ flaw. Fails at text.now (fault_of flaw)) }
 {
     match comment.split_once("*/") {
-        None => Err(LexFault::OpenComment { at }),
+        None => Err(Flaw::OpenComment { at }),
         Some((_, rest)) => Ok(Piece {
             len: text.len() - rest.len(),
             kind: None,
@@ -151,7 +154,7 @@ pub(crate) fn piece_at(alloc: Global, at: u32, text: &str) -> Result<Piece, LexF
         return word(alloc, text);
     }
     if first.is_ascii_digit() {
-        return number(at, text);
+        return Ok(number(at, text)?);
     }
     if let Some(inner) = text.strip_prefix('"') {
         return quoted_name(alloc, at, text, inner);
@@ -163,7 +166,7 @@ pub(crate) fn piece_at(alloc: Global, at: u32, text: &str) -> Result<Piece, LexF
         return Ok(line_comment(text, comment));
     }
     if let Some(comment) = text.strip_prefix("/*") {
-        return block_comment(at, text, comment);
+        return Ok(block_comment(at, text, comment)?);
     }
     match symbol_at(text.as_bytes()) {
         None => Err(LexFault::BadByte { at }),
