@@ -1,3 +1,4 @@
+//! The trees of conditions.
 use crate::ExprTree;
 use sqlite_items::{Boxed, Items};
 

@@ -1,3 +1,4 @@
+//! The trees of expressions.
 use sq_value::Str;
 use sqlite_items::{Boxed, Items};
 

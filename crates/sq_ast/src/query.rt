@@ -1,3 +1,4 @@
+//! The trees of queries.
 use crate::{ColRef, CondTree, ExprTree};
 use sq_value::Str;
 use sqlite_items::{Boxed, Items};

@@ -1,3 +1,4 @@
+//! The trees of statements.
 use crate::QueryTree;
 use sq_value::Str;
 use sqlite_items::Items;

@@ -1,3 +1,5 @@
+//! Gates, at which workers call before a task.
+
 /// What a worker calls before it runs a claimed task. It promises nothing, and changes nothing
 /// that the engine sees.
 pub trait Gate: Sync {

@@ -20,6 +20,3 @@ pub use sinks::{Sink, put_all};
 pub use sources::{Failed, Source};
 pub use standard_sink::StdSink;
 pub use standard_source::StdSource;
-
-#[cfg(test)]
-mod tests;

@@ -1,3 +1,4 @@
+//! Sinks, and how a text is handed to one.
 ghost use Rattle.std.specs.Prelude.{ℕ, Option, ◌≤◌, ◌<◌, List, length, take, IfOk, OnOk, OnErr};
 ghost use Rattle.std.specs.Io.KnownBytes.{Appends, WriteAppends};
 ghost use Rattle.sq_base.specs.Causes.{HasCause};

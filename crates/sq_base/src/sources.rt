@@ -1,3 +1,4 @@
+//! Sources, and a read or a write that failed.
 ghost use Rattle.std.specs.Prelude.{ℕ, Option, ◌≤◌, List, length, IfOk};
 ghost use Rattle.std.specs.Io.KnownBytes.{ReadConsumes};
 ghost use Rattle.sq_base.specs.Causes.{HasCause};

@@ -1,3 +1,4 @@
+//! A source over a reader of std.
 ghost use Rattle.std.specs.Prelude.{◌≡◌, ◌≤◌, length, IfOk, OnOk, OnErr};
 ghost use Rattle.std.specs.Io.KnownBytes.{ReadConsumes};
 ghost use Rattle.sq_base.specs.Causes.{HasCause, raised};

@@ -1,3 +1,4 @@
+//! Catalogues: the relations of a program by name and by number.
 ghost use Rattle.std.specs.Prelude.{◌≡◌, ◌<◌, ◌-◌, ◌^◌, ◌++◌, ◌∷◌, [], Some, length, slice_get, IsTrue, OnOk, OnErr, Err, is_some, true, false};
 ghost use Rattle.sq_catalog.specs.Names.{is_named, place_of, names_differ};
 

@@ -1,3 +1,4 @@
+//! Why a relation is not added.
 ghost use Rattle.std.specs.Prelude.{◌≡◌};
 ghost use Rattle.sq_catalog.specs.declared.fault.CatalogFault.TheVariants.{Memory};
 

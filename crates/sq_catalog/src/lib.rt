@@ -4,8 +4,6 @@
 mod catalog;
 mod fault;
 mod relation;
-#[cfg(test)]
-mod tests;
 
 pub use catalog::Catalog;
 pub use fault::CatalogFault;

@@ -1,3 +1,4 @@
+//! Tables and views, with their columns.
 use sq_expr::Kind;
 use sq_value::Str;
 use sqlite_items::Items;

@@ -1,3 +1,4 @@
+//! Conditions and comparisons.
 use crate::Expr;
 use sqlite_items::{Boxed, Items};
 

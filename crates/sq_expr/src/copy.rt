@@ -1,3 +1,4 @@
+//! Copies of expressions and conditions.
 ghost use Rattle.std.specs.Prelude.{◌≡◌, IfOk};
 
 use crate::{Cond, Expr, Term};

@@ -1,3 +1,4 @@
+//! Expressions, the types of columns and the aggregate functions.
 use sq_value::Str;
 use sqlite_items::{Boxed, Items};
 

@@ -14,8 +14,6 @@ pub mod laws;
 mod limit;
 mod number;
 mod same;
-#[cfg(test)]
-mod tests;
 mod typing;
 mod value;
 

@@ -1,3 +1,4 @@
+//! The static bound of an expression: how large it may get on rows of some kinds.
 ghost use Rattle.std.specs.Prelude.{◌≡◌, ◌<◌, ◌≤◌, ◌^◌, MatchOption, unwrap_or, slice_get, Some};
 ghost use Rattle.std.specs.Option.{option_map};
 ghost use Rattle.sq_expr.specs.Bounds.{IsBounded, bound_of, kind_bound};

@@ -1,3 +1,4 @@
+//! Sums, products and comparisons of the values that expressions have.
 ghost use Rattle.std.specs.Prelude.{◌≡◌, ◌+ℤ◌, ◌*ℤ◌};
 ghost use Rattle.sq_expr.specs.Meaning.{value_of, negative, signed, of_both, comparison, compares, tri_of, is_null};
 ghost use Rattle.sq_expr.specs.Wrapping.{wrapped};

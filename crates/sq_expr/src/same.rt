@@ -1,3 +1,4 @@
+//! Whether two expressions are the same.
 ghost use Rattle.std.specs.Prelude.{◌≡◌, ◌↔◌, IsTrue};
 
 use crate::{Expr, Term};

@@ -1,3 +1,4 @@
+//! An expression as a value that a row can hold.
 ghost use Rattle.std.specs.Prelude.{◌≡◌, MatchResult, FitsSigned};
 ghost use Rattle.std.specs.Int.{w64};
 ghost use Rattle.sq_expr.specs.Fits.{Fits};

@@ -1,3 +1,4 @@
+//! Why tokens spell no statements.
 ghost use Rattle.std.specs.Prelude.{◌≡◌};
 ghost use Rattle.sq_parse.specs.declared.fault.ParseFault.TheVariants as faults;
 ghost use Rattle.sq_parse.specs.declared.fault.Stop.TheVariants.{Memory};

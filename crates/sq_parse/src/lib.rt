@@ -11,8 +11,6 @@ mod program;
 mod query;
 mod statement;
 mod step;
-#[cfg(test)]
-mod tests;
 
 pub use fault::ParseFault;
 pub use program::statements;

@@ -1,3 +1,4 @@
+//! Sorts of bytes, and how many of a sort stand at the front of a text.
 ghost use Rattle.std.specs.Prelude.{◌≡◌};
 ghost use Rattle.std.specs.Char.{is_ascii_digit};
 ghost use Rattle.sq_token.specs.Bytes.{is_blank, starts_word, in_word, next_passes};

@@ -1,3 +1,4 @@
+//! The tokens of a whole text, one after the other.
 ghost use Rattle.std.specs.Prelude.{◌≡◌, ◌+◌, ◌<◌, ◌≤◌, ◌^◌, ◌++◌, ◌⊎◌, List, length, All, IfOk, IfErr, OnOk, IsErrAnd, MatchResult, vec_len};
 ghost use Rattle.std.specs.Str.{IsUtf8};
 ghost use Rattle.sq_token.specs.declared.fault.LexFault.{LexFault as Fault};

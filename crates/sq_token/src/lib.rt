@@ -9,8 +9,6 @@ mod lexer;
 mod piece;
 mod quoted;
 mod symbol;
-#[cfg(test)]
-mod tests;
 mod token;
 
 pub use fault::LexFault;

@@ -1,3 +1,4 @@
+//! Characters in quotes, in which a doubled quote is one quote.
 ghost use Rattle.std.specs.Prelude.{◌≡◌, ◌<◌, IfOk, IfErr, MatchOption};
 ghost use Rattle.sq_token.specs.Fault.{IsOpen};
 ghost use Rattle.sq_token.specs.Closing.{Closes};

@@ -1,3 +1,4 @@
+//! Symbols, and the bytes that spell them.
 ghost use Rattle.std.specs.Prelude.{◌≡◌};
 ghost use Rattle.sq_token.specs.Symbols.{symbol_of_byte, symbol_of_pair, symbol_of_two};
 

@@ -1,3 +1,4 @@
+//! Tokens and what they say.
 use crate::Symbol;
 use sq_value::Str;
 

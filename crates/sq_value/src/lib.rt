@@ -4,8 +4,6 @@
 pub mod laws;
 mod memory;
 mod row;
-#[cfg(test)]
-mod tests;
 mod text;
 mod tri;
 mod value;

@@ -1,3 +1,4 @@
+//! Out-of-memory, as an answer of calls.
 use std::alloc::{AllocError, AllocFailed};
 
 /// Want of memory. The one answer that no contract ties to a cause.

@@ -1,3 +1,4 @@
+//! Rows: lists of values, with their order.
 ghost use Rattle.std.specs.Prelude.{◌≡◌, ◌<◌, length, slice_get, Some, IfOk, refl};
 ghost use Rattle.std.specs.Cmp.{eq_by_cmp_equiv, partial_equiv_from_equiv, partial_order_from_agreeing_total};
 ghost use Rattle.std.specs.Hash as fed;

@@ -1,3 +1,4 @@
+//! Truth values, with AND, OR and NOT.
 ghost use Rattle.std.specs.Prelude.{◌≡◌};
 ghost use Rattle.sq_value.specs.Truth.{least, greatest, opposite};
 

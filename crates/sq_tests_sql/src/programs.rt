@@ -1,6 +1,6 @@
-// What no clause says: that calls succeed with ample memory, and that the statements are the intended ones.
-use crate::statements;
+//! Statements: that calls succeed with ample memory, and that the statements are the intended ones.
 use sq_ast::{Body, Statement};
+use sq_parse::statements;
 use sq_token::tokens;
 use std::alloc::Global;
 use std::test::Fail;

@@ -1,7 +1,7 @@
-// What no clause says: that memory suffices, that calls succeed, and worked values from outside.
+//! Sources, sinks and gates: that calls succeed with ample memory, and worked values from outside.
 ghost use Rattle.std.specs.Prelude.{◌≤◌, IfOk};
 
-use crate::{
+use sq_base::{
     Failed, FreeGate, Gate, MemSink, MemSource, Sink, Source, StdSink, StdSource, put_all,
 };
 use sq_value::NoMemory;
@@ -188,7 +188,7 @@ impl Write for Scripted {
 
 #[test]
 fn standard_output_takes_all(rt: HostRuntime) {
-    let text = b"Written by a test of sq_base.\n";
+    let text = b"Written by a test of sinks.\n";
     assert_eq!(rt; put_all(&mut StdSink::new(rt.stdout()), text), Ok(()));
 }
 

@@ -1,5 +1,5 @@
-// What no clause says: that calls succeed with ample memory; and what they answer for a small program.
-use crate::{Catalog, CatalogFault, Column, Relation, RelationKind};
+//! Catalogues: that calls succeed with ample memory, and what they answer for a small program.
+use sq_catalog::{Catalog, CatalogFault, Column, Relation, RelationKind};
 use sq_expr::Kind;
 use sq_value::{NoMemory, Str};
 use sqlite_items::Items;

@@ -1,9 +1,10 @@
-// What no clause says: that calls succeed with ample memory, and that the meaning is the intended one.
-use crate::{
+//! Expressions and conditions: that calls succeed with ample memory, and that the meaning is the intended one.
+use crate::fixtures::{row_of, text_of};
+use sq_expr::{
     Cmp, Cond, Expr, ItemFault, Kind, Num, OutOfRange, Sort, Term, bound, eval, expr_sort,
     is_of_kinds, item, suits, suits_cond, test, to_i64,
 };
-use sq_value::{NoMemory, Row, Str, Tri, Value};
+use sq_value::{Row, Str, Tri, Value};
 use sqlite_items::{Boxed, Items};
 use std::alloc::Global;
 use std::cmp::Ordering;
@@ -11,7 +12,7 @@ use std::process::Abort;
 use std::test::Fail;
 
 // The truth on the row, where the condition and the row are of these kinds.
-#[tactic(auto, using(crate::proofs::FitsLemmas::fits_cond_of))]
+#[tactic(auto, using(sq_expr::proofs::FitsLemmas::fits_cond_of))]
 fn truth_on(cond: &Cond, row: &Row, kinds: &[Kind]) -> Option<Tri> {
     if suits_cond(cond, kinds) && is_of_kinds(row, kinds) {
         Some(test(cond, row))
@@ -21,7 +22,7 @@ fn truth_on(cond: &Cond, row: &Row, kinds: &[Kind]) -> Option<Tri> {
 }
 
 // The number on the row, where the expression and the row are of these kinds and it is a number.
-#[tactic(auto, using(crate::proofs::FitsLemmas::fits_of))]
+#[tactic(auto, using(sq_expr::proofs::FitsLemmas::fits_of))]
 fn number_on(expr: &Expr, row: &Row, kinds: &[Kind]) -> Option<i128> {
     if !suits(expr, kinds) || !is_of_kinds(row, kinds) {
         return None;
@@ -33,7 +34,7 @@ fn number_on(expr: &Expr, row: &Row, kinds: &[Kind]) -> Option<i128> {
 }
 
 // The item on the row, where the expression and the row are of these kinds.
-#[tactic(auto, using(crate::proofs::FitsLemmas::fits_of))]
+#[tactic(auto, using(sq_expr::proofs::FitsLemmas::fits_of))]
 fn item_on(
     alloc: Global,
     expr: &Expr,
@@ -45,14 +46,6 @@ fn item_on(
     } else {
         None
     }
-}
-
-fn row_of(alloc: Global, numbers: &[Option<i64>]) -> Result<Row, Fail> {
-    let mut values = Vec::new(alloc);
-    for number in numbers {
-        values.push(number.map_or(Value::Null, Value::Int))?;
-    }
-    Ok(Row::of(values))
 }
 
 // The product of numbers.
@@ -178,10 +171,6 @@ fn numbers_compare_by_size(rt: HostRuntime) -> Result<(), Fail> {
         check_comparisons(&rt, &row_of(alloc, &numbers)?, &kinds, None);
     }
     Ok(())
-}
-
-fn text_of(alloc: Global, text: &str) -> Result<Value, NoMemory> {
-    Ok(Value::Text(Str::of(alloc, text)?))
 }
 
 fn row_of_two(alloc: Global, left: Value, right: Value) -> Result<Row, Fail> {
@@ -448,11 +437,14 @@ fn rows_hold_values_of_their_kinds(rt: HostRuntime) -> Result<(), Fail> {
     Ok(())
 }
 
+fn shown(alloc: Global, cond: &Cond) -> Result<String, Fail> {
+    Ok(format!(in alloc; "{cond:?}")?)
+}
+
 // Whether a copy of the condition is written as the condition is.
 fn is_copied(alloc: Global, cond: &Cond) -> Result<bool, Fail> {
     let copy = cond.clone_cond(alloc)?;
-    let text = format!(in alloc; "{cond:?}")?;
-    Ok(text == format!(in alloc; "{copy:?}")?)
+    Ok(shown(alloc, cond)? == shown(alloc, &copy)?)
 }
 
 fn negative_sum(alloc: Global) -> Result<Expr, Fail> {

@@ -1,6 +1,6 @@
-// What no clause says: that calls succeed with ample memory, and that the orders are the intended ones.
-use crate::{NoMemory, Row, Str, Tri, Value};
-use std::alloc::Global;
+//! Values, texts and rows: that calls succeed with ample memory, and that the orders are the intended ones.
+use crate::fixtures::row_of;
+use sq_value::{Row, Str, Tri, Value};
 use std::convert::AsStr;
 use std::hash::{DefaultHasher, Hash, Hasher};
 use std::process::Abort;
@@ -62,14 +62,6 @@ fn values_go_by_kind_and_size(rt: HostRuntime) -> Result<(), Fail> {
     }
     check_ascending(&rt, values);
     Ok(())
-}
-
-fn row_of(alloc: Global, numbers: &[Option<i64>]) -> Result<Row, NoMemory> {
-    let mut values = Vec::new(alloc);
-    for number in numbers {
-        values.push(number.map_or(Value::Null, Value::Int))?;
-    }
-    Ok(Row::of(values))
 }
 
 #[test]

@@ -1,5 +1,5 @@
-// What no clause says: that calls succeed with ample memory, and that the tokens are the intended ones.
-use crate::{Token, TokenKind, tokens};
+//! Tokens: that calls succeed with ample memory, and that the tokens are the intended ones.
+use sq_token::{Token, TokenKind, tokens};
 use std::alloc::Global;
 use std::convert::AsStr;
 use std::test::Fail;
