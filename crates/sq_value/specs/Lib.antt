@@ -3,3 +3,4 @@ pub mod OrderLaws
 pub mod Hash
 pub mod Count
 pub mod Truth
+pub mod KeyBytes

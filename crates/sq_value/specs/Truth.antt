@@ -1,5 +1,5 @@
 -- The three truth values of SQL, in the order False, Unknown, True.
-use Rattle.std.specs.Prelude.{ℕ, if◌then◌else◌, nat_le}
+use Rattle.std.specs.Prelude.{ℕ, Bool, true, false, if◌then◌else◌, nat_le}
 use Rattle.sq_value.specs.declared.tri.Tri.{Tri}
 use Rattle.sq_value.specs.declared.tri.Tri.TheVariants.{False, Unknown, True}
 
@@ -22,3 +22,9 @@ abbrev pub opposite : Tri → Tri
 opposite False = True
 opposite Unknown = Unknown
 opposite True = False
+
+-- whether it is True: neither False nor Unknown
+abbrev pub is_true : Tri → Bool
+is_true False = false
+is_true Unknown = false
+is_true True = true

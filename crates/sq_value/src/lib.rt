@@ -1,6 +1,7 @@
 //! Values, texts, rows and truth values: the data that every other crate of Keltzumba speaks of.
 #![tactic(auto)]
 
+mod keys;
 pub mod laws;
 mod memory;
 mod row;
@@ -8,6 +9,7 @@ mod text;
 mod tri;
 mod value;
 
+pub use keys::key_bytes;
 pub use memory::NoMemory;
 pub use row::Row;
 pub use text::Str;

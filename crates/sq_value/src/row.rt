@@ -52,6 +52,13 @@ impl Row {
         &self.values[i]
     }
 
+    /// All values, in their order.
+    pub(crate) fn values(&self) -> &[Value]
+        ensures { result.now ≡ self.now }
+    {
+        &self.values
+    }
+
     /// A row of its own with the same values, or `NoMemory` where memory runs out.
     pub fn clone_row(&self, alloc: Global) -> Result<Row, NoMemory>
         ensures equal { IfOk result (λ copy. copy ≡ self.now) }

@@ -1,10 +1,10 @@
 //! Truth values, with AND, OR and NOT.
 ghost use Rattle.std.specs.Prelude.{◌≡◌};
-ghost use Rattle.sq_value.specs.Truth.{least, greatest, opposite};
+ghost use Rattle.sq_value.specs.Truth.{least, greatest, opposite, is_true};
 
 /// A truth value of SQL. NULL in a comparison makes it unknown.
 ///
-/// The order is False, then Unknown, then True.
+/// The order is False, then Unknown, then True (`laws::order_of_truths`).
 #[derive(Clone, Copy, Debug, Drop, PartialEq, Eq, PartialOrd, Ord, Hash)]
 pub enum Tri {
     /// It does not hold.
@@ -46,6 +46,16 @@ impl Tri {
             Tri::False => Tri::True,
             Tri::Unknown => Tri::Unknown,
             Tri::True => Tri::False,
+        }
+    }
+
+    /// Whether it is True. A condition holds for a row if this is so.
+    pub fn is_true(self) -> bool
+        ensures { result ≡ is_true self }
+    {
+        match self {
+            Tri::True => true,
+            Tri::False | Tri::Unknown => false,
         }
     }
 }
