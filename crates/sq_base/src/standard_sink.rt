@@ -1,9 +1,10 @@
 //! A sink over a writer of std.
-ghost use Rattle.std.specs.Prelude.{◌≡◌, ◌≤◌, ◌<◌, length, IfOk, OnOk, OnErr};
+ghost use Rattle.std.specs.Prelude.{◌≡◌, ◌≤◌, ◌<◌, length, IfOk, OnOk, OnErr, IsErr, Ok, false};
 ghost use Rattle.std.specs.Io.KnownBytes.{WriteAppends};
 ghost use Rattle.sq_base.specs.Causes.{HasCause, raised};
 
 use crate::{Failed, Sink};
+use std::io;
 use std::io::Write;
 use std::marker::Model;
 
@@ -15,9 +16,11 @@ use std::marker::Model;
 /// nothing is to be flushed at the end. A writer that buffers does not belong here, since this sink
 /// never flushes.
 ///
-/// It takes what the writer takes, and tells what bytes it took where the writer does. Those two do
-/// not: what a real file or terminal holds is known to no contract. Each error of the writer is a
-/// fault, an interrupted call too, and so is a call that takes 0 bytes of a piece that is not empty.
+/// It takes what the writer takes, and tells what bytes it took if the writer does. Those two do not:
+/// what a real file or terminal holds is known to no contract. Each error of the writer is a fault, an
+/// interrupted call too, and so is a call that takes 0 bytes of a piece that is not empty; nothing else
+/// is (`counted`). That each call is one call of the writer is tested only, since a writer of std tells
+/// no count of its calls.
 #[derive(Debug, Drop)]
 pub struct StdSink<W> {
     writer: W,
@@ -54,12 +57,26 @@ impl<W: Write> Sink for StdSink<W> {
         ensures ok { OnOk result (self.new.faults ≡ self.old.faults) }
         ensures err { OnErr result (self.new.faults ≡ raised self.old.faults) }
     {
-        match self.writer.write(bytes) {
-            Ok(count) if count > 0 || bytes.is_empty() => Ok(count),
-            _ => {
-                self.faults = self.faults.saturating_add(1);
-                Err(Failed)
-            }
+        let outcome = self.writer.write(bytes);
+        counted(&mut self.faults, bytes.is_empty(), outcome)
+    }
+}
+
+// What a write of std's writer took. A fault is counted exactly if that write failed, or took nothing of a
+// piece that is not empty.
+fn counted(faults: &mut u64, empty: bool, outcome: io::Result<usize>) -> Result<usize, Failed>
+    ensures taken { IfOk result (λ n. outcome ≡ Ok n) }
+    ensures progress { IfOk result (λ n. empty ≡ false → 0 < n) }
+    ensures fault { IsErr result → IfOk outcome (λ n. (n ≡ 0) × (empty ≡ false)) }
+    ensures cause { HasCause faults.old faults.new result }
+    ensures ok { OnOk result (faults.new ≡ faults.old) }
+    ensures err { OnErr result (faults.new ≡ raised faults.old) }
+{
+    match outcome {
+        Ok(count) if count > 0 || empty => Ok(count),
+        _ => {
+            *faults = faults.saturating_add(1);
+            Err(Failed)
         }
     }
 }

@@ -1,18 +1,20 @@
 //! A source over a reader of std.
-ghost use Rattle.std.specs.Prelude.{◌≡◌, ◌≤◌, length, IfOk, OnOk, OnErr};
+ghost use Rattle.std.specs.Prelude.{◌≡◌, ◌≤◌, length, IfOk, OnOk, OnErr, IsErr, Ok};
 ghost use Rattle.std.specs.Io.KnownBytes.{ReadConsumes};
 ghost use Rattle.sq_base.specs.Causes.{HasCause, raised};
 
 use crate::{Failed, Source};
+use std::io;
 use std::io::Read;
 use std::marker::Model;
 
 /// A source over a reader of std. In `main` that over standard input is `StdSource::new(rt.stdin())`,
 /// for the `rt: HostRuntime` that `main` is given.
 ///
-/// It gives what the reader gives, and tells what bytes are left where the reader does. Standard
-/// input does not: what a real file or terminal holds is known to no contract. Each error of the
-/// reader is a fault, an interrupted call too.
+/// It gives what the reader gives, and tells what bytes are left if the reader does. Standard input
+/// does not: what a real file or terminal holds is known to no contract. Each error of the reader is
+/// a fault, an interrupted call too, and nothing else is (`counted`). That each call is one call of
+/// the reader is tested only, since a reader of std tells no count of its calls.
 #[derive(Debug, Drop)]
 pub struct StdSource<R> {
     reader: R,
@@ -48,12 +50,24 @@ impl<R: Read> Source for StdSource<R> {
         ensures ok { OnOk result (self.new.faults ≡ self.old.faults) }
         ensures err { OnErr result (self.new.faults ≡ raised self.old.faults) }
     {
-        match self.reader.read(buf) {
-            Ok(count) => Ok(count),
-            Err(_) => {
-                self.faults = self.faults.saturating_add(1);
-                Err(Failed)
-            }
+        let outcome = self.reader.read(buf);
+        counted(&mut self.faults, outcome)
+    }
+}
+
+// What a read of std's reader gave. A fault is counted exactly if that read failed.
+fn counted(faults: &mut u64, outcome: io::Result<usize>) -> Result<usize, Failed>
+    ensures given { IfOk result (λ n. outcome ≡ Ok n) }
+    ensures fault { IsErr result → IsErr outcome }
+    ensures cause { HasCause faults.old faults.new result }
+    ensures ok { OnOk result (faults.new ≡ faults.old) }
+    ensures err { OnErr result (faults.new ≡ raised faults.old) }
+{
+    match outcome {
+        Ok(count) => Ok(count),
+        Err(_) => {
+            *faults = faults.saturating_add(1);
+            Err(Failed)
         }
     }
 }

@@ -49,3 +49,18 @@ fn relations_are_found_by_name_and_number(rt: HostRuntime) -> Result<(), Fail> {
     assert_eq!(rt; catalog.find("V"), None);
     Ok(())
 }
+
+#[test]
+fn relations_are_tables_or_views(rt: HostRuntime) {
+    let rows = [
+        (RelationKind::Table, [true, false, false]),
+        (RelationKind::View { printed: true }, [false, true, true]),
+        (RelationKind::View { printed: false }, [false, true, false]),
+    ];
+    for (kind, expected) in rows {
+        assert_eq!(rt;
+            [kind.is_table(), kind.is_view(), kind.is_printed()],
+            expected
+        );
+    }
+}

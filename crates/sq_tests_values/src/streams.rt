@@ -2,7 +2,7 @@
 ghost use Rattle.std.specs.Prelude.{◌≤◌, IfOk};
 
 use sq_base::{
-    Failed, FreeGate, Gate, MemSink, MemSource, Sink, Source, StdSink, StdSource, put_all,
+    Failed, FreeGate, Gate, MemSink, MemSource, Sink, Source, StdSink, StdSource, Steps, put_all,
 };
 use sq_value::NoMemory;
 use std::alloc::{AllocError, Global};
@@ -12,21 +12,6 @@ use std::process::Abort;
 use std::test::Fail;
 
 const TEXT: &[u8] = b"abcdefg";
-
-fn is_shared<T: Send + Sync + Drop>(_value: T) {}
-
-#[test]
-fn threads_may_share_each(rt: HostRuntime) -> Result<(), Fail> {
-    let alloc = rt.alloc();
-    is_shared(Failed);
-    is_shared(FreeGate);
-    is_shared(MemSource::new(Vec::new(alloc), 1, Vec::new(alloc)));
-    is_shared(MemSink::new(alloc, 1, 1, Vec::new(alloc))?);
-    is_shared(StdSource::new(rt.stdin()));
-    is_shared(StdSink::new(rt.stdout()));
-    is_shared(StdSink::new(rt.stderr()));
-    Ok(())
-}
 
 // The outcome of one call, through the bound.
 fn read_from<S: Source>(source: &mut S, buf: &mut [u8]) -> Result<usize, Failed> {
@@ -219,4 +204,18 @@ fn pass<G: Gate>(gate: &G) {
 #[test]
 fn a_free_gate_lets_pass() {
     pass(&FreeGate);
+}
+
+#[test]
+fn steps_are_counted(rt: HostRuntime) {
+    let mut steps = Steps::begin("ledger");
+    steps.tick();
+    let mut part = steps.split();
+    part.tick();
+    part.tick();
+    assert_eq!(rt; part.count(), 2);
+    assert_eq!(rt; steps.count(), 1);
+    steps.merge(part);
+    assert_eq!(rt; steps.count(), 3);
+    assert_eq!(rt; steps.end(), "ledger");
 }

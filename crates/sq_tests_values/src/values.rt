@@ -1,6 +1,6 @@
 //! Values, texts and rows: that calls succeed with ample memory, and that the orders are the intended ones.
-use crate::fixtures::row_of;
-use sq_value::{Row, Str, Tri, Value};
+use crate::fixtures::{row_of, text_of};
+use sq_value::{Row, Str, Tri, Value, key_bytes};
 use std::convert::AsStr;
 use std::hash::{DefaultHasher, Hash, Hasher};
 use std::process::Abort;
@@ -89,4 +89,18 @@ fn truth_goes_from_false_to_true(rt: HostRuntime) {
     }
     assert_eq!(rt; all.map(Tri::not), [Tri::True, Tri::Unknown, Tri::False]);
     assert!(rt; Tri::False < Tri::Unknown && Tri::Unknown < Tri::True);
+    assert_eq!(rt; all.map(Tri::is_true), [false, false, true]);
+}
+
+#[test]
+fn keys_have_these_bytes(rt: HostRuntime) -> Result<(), Fail> {
+    let alloc = rt.alloc();
+    let text = text_of(alloc, "ab")?;
+    let row = Row::of(vec![in alloc; Value::Int(1), Value::Null, Value::Int(-2), text]?);
+    let expected: &[u8] = &[
+        1, 0, 0, 0, 0, 0, 0, 0, 1, 0, 1, 255, 255, 255, 255, 255, 255, 255, 254, 2, 0, 0, 0, 0, 0,
+        0, 0, 2, 97, 98,
+    ];
+    assert_eq!(rt; key_bytes(alloc, &row)?.as_slice(), expected);
+    Ok(())
 }
