@@ -12,3 +12,4 @@ pub mod Kept
 pub mod Rows
 pub mod Typed
 pub mod SameLemmas
+pub mod Shifts

@@ -7,3 +7,4 @@ pub mod Fits
 pub mod Wrapping
 pub mod Items
 pub mod Same
+pub mod Shifted

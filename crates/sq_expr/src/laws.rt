@@ -1,5 +1,5 @@
 //! What holds of expressions and conditions, each as the contract of a function that does nothing.
-ghost use Rattle.std.specs.Prelude.{◌≡◌, ◌↔◌, ◌≤◌, ◌<◌, ℕ, ℤ, List, ◌++◌, Some, length, replicate, slice_get, true, unsigned_abs};
+ghost use Rattle.std.specs.Prelude.{◌≡◌, ◌↔◌, ◌≤◌, ◌<◌, ◌+◌, ℕ, ℤ, List, ◌++◌, Some, length, replicate, slice_get, true, unsigned_abs};
 ghost use Rattle.std.specs.List.{AllByRecursion, flat_map};
 ghost use Rattle.sq_value.specs.declared.tri.Tri.TheVariants.{True};
 ghost use Rattle.sq_value.specs.declared.value.Value.{Value as Datum};
@@ -17,6 +17,7 @@ ghost use Rattle.sq_expr.specs.Items.{IsStorable};
 ghost use Rattle.sq_expr.specs.Kinds.{AreOfKinds, IsOfKind};
 ghost use Rattle.sq_expr.specs.Meaning.{column_of, num, truth};
 ghost use Rattle.sq_expr.specs.Same.{is_same_expr};
+ghost use Rattle.sq_expr.specs.Shifted.{shifted, shifted_cond};
 ghost use Rattle.sq_expr.specs.Typing.{IsOfSort, IsTyped, IsTypedCond, Numeric, Sort as ExprSort, Textual, sort_of};
 
 use crate::{Cmp, Cond, Expr, Func, ItemFault, Kind, Num, OutOfRange, Sort, Term};
@@ -28,11 +29,20 @@ pub fn names_decide()
     ensures truth { (r s : List Datum) (c : Condition) → AllByRecursion (λ n. column_of r n ≡ column_of s n) (cond_columns c) → truth c r ≡ truth c s }
 {}
 
-/// What names columns of a row alone reads the same where more values follow.
+/// What names columns of a row alone reads the same if more values follow.
 #[tactic(auto, using(crate::proofs::Names::num_front, crate::proofs::Names::truth_front))]
 pub fn longer_rows()
     ensures value { (row more : List Datum) (e : Expression) → width_of (columns e) ≤ length row → num e (row ++ more) ≡ num e row }
     ensures truth { (row more : List Datum) (c : Condition) → width_of (cond_columns c) ≤ length row → truth c (row ++ more) ≡ truth c row }
+{}
+
+/// Behind another row the columns are those of this row, each with a number that is higher by the other's length.
+/// What is shifted by that length reads there what it reads on this row alone.
+#[tactic(auto, using(crate::proofs::Shifts::column_behind, crate::proofs::Shifts::num_behind, crate::proofs::Shifts::truth_behind))]
+pub fn shifts()
+    ensures column { (row more : List Datum) (n : ℕ) → column_of (row ++ more) (length row + n) ≡ column_of more n }
+    ensures value { (row more : List Datum) (e : Expression) → num (shifted (length row) e) (row ++ more) ≡ num e more }
+    ensures truth { (row more : List Datum) (c : Condition) → truth (shifted_cond (length row) c) (row ++ more) ≡ truth c more }
 {}
 
 /// The width of a list of columns is the least that all of them lie below; what is typed names columns that

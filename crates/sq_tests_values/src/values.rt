@@ -12,7 +12,7 @@ fn hash_of<T: Hash>(item: &T) -> u64 {
     state.finish()
 }
 
-fn text_of<T: AsStr>(item: &T) -> &str {
+fn lent<T: AsStr>(item: &T) -> &str {
     item.as_str()
 }
 
@@ -32,8 +32,8 @@ fn copies_are_equal(rt: HostRuntime) -> Result<(), Fail> {
     let alloc = rt.alloc();
     let text = Str::of(alloc, "źdźbło")?;
     let copy = text.clone_str(alloc)?;
-    assert_eq!(rt; text_of(&text), "źdźbło");
-    assert_eq!(rt; text_of(&copy), "źdźbło");
+    assert_eq!(rt; lent(&text), "źdźbło");
+    assert_eq!(rt; lent(&copy), "źdźbło");
     assert_eq!(rt; hash_of(&text), hash_of(&copy));
 
     let row = Row::of(vec![in alloc; Value::Null, Value::Int(-7), Value::Text(text)]?);
