@@ -13,3 +13,4 @@ pub mod Rows
 pub mod Typed
 pub mod SameLemmas
 pub mod Shifts
+pub mod ShiftSteps

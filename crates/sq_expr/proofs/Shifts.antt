@@ -1,9 +1,8 @@
 -- What a shifted expression or condition is, and that it reads on a row behind another what the unshifted one
 -- reads on the row alone.
-use Rattle.std.proofs.Common.{◌≡◌, ℕ, zero, suc, ◌+◌, Bool, not, if◌then◌else◌, List, [], ◌∷◌, ◌++◌, map, fold, length, refl, ap, sym, ◌∙◌, arith}
+use Rattle.std.proofs.Common.{◌≡◌, ℕ, suc, ◌+◌, Bool, not, if◌then◌else◌, List, [], ◌∷◌, ◌++◌, map, fold, length, ap, sym, ◌∙◌, arith}
 use Rattle.std.specs.List.{AllByRecursion}
 use Rattle.std.proofs.lemmas.Simd.{map-map}
-use Rattle.sq_value.specs.declared.tri.Tri.{Tri}
 use Rattle.sq_value.specs.declared.tri.Tri.TheVariants.{False, True}
 use Rattle.sq_value.specs.declared.value.Value.{Value}
 use Rattle.sq_value.specs.Truth.{least, greatest, opposite}

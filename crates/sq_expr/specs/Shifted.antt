@@ -7,7 +7,7 @@ use Rattle.sq_expr.specs.declared.cond.Cond.TheOpen.{Cond-F}
 use Rattle.sq_expr.specs.declared.cond.Cond.TheVariants as cond
 use Rattle.sq_expr.specs.declared.expr.Expr.{Expr}
 use Rattle.sq_expr.specs.declared.expr.Expr.TheFolds.{fold-Expr, fold-Term}
-use Rattle.sq_expr.specs.declared.expr.Expr.TheOpen.{Expr-F, Term-F}
+use Rattle.sq_expr.specs.declared.expr.Expr.TheOpen.{Expr-F}
 use Rattle.sq_expr.specs.declared.expr.Expr.TheVariants as expr
 use Rattle.sq_expr.specs.declared.expr.Term.{Term, roll-Term}
 

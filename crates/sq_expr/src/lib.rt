@@ -14,6 +14,7 @@ pub mod laws;
 mod limit;
 mod number;
 mod same;
+mod shift;
 mod typing;
 mod value;
 

@@ -508,3 +508,32 @@ fn sums_are_the_same_term_by_term(rt: HostRuntime) -> Result<(), Fail> {
     assert!(rt; !are_same_sums(alloc, &sum, &[(false, 0)])?);
     Ok(())
 }
+
+#[test]
+#[tactic(auto, using(sq_expr::proofs::ShiftSteps::room_of_column, sq_expr::proofs::ShiftSteps::room_of_null))]
+fn shifted_columns_stand_further_on(rt: HostRuntime) -> Result<(), Fail> {
+    let alloc = rt.alloc();
+    let column = Expr::Column(1);
+    let shifted = column.shifted(alloc, 2)?;
+    assert!(rt; shifted.is_same(&Expr::Column(3)));
+    assert!(rt; !shifted.is_same(&column));
+    Ok(())
+}
+
+#[test]
+#[tactic(auto, using(sq_expr::proofs::ShiftSteps::room_of_column, sq_expr::proofs::ShiftSteps::room_of_null))]
+fn shifted_conditions_test_further_on(rt: HostRuntime) -> Result<(), Fail> {
+    let alloc = rt.alloc();
+    let cond = Cond::Null {
+        expr: Expr::Column(1),
+        negated: true,
+    };
+    let further = Cond::Null {
+        expr: Expr::Column(3),
+        negated: true,
+    };
+    let shifted = cond.shifted(alloc, 2)?;
+    assert!(rt; shifted.is_same(&further));
+    assert!(rt; !shifted.is_same(&cond));
+    Ok(())
+}
