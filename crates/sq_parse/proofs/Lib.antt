@@ -1,5 +1,4 @@
-pub mod Chains
+pub mod QueryChains
 pub mod Levels
 pub mod Places
 pub mod Verdict
-pub mod Operands

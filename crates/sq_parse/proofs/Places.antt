@@ -4,7 +4,7 @@ use Rattle.std.proofs.Common.{sym, ap, subst, ◌∙◌, arith, append_assoc}
 use Rattle.std.proofs.lemmas.Bool.{leb-true, le-leb}
 use Rattle.std.proofs.lemmas.Grind.{common_steps}
 use Rattle.std.specs.List.{prefix_len, position, position_or_len}
-use Rattle.std.proofs.lemmas.List.{append-nil, length-map, length-drop, take_all}
+use Rattle.std.proofs.lemmas.List.{append-nil, length-drop, take_all}
 use Rattle.sq_token.specs.declared.token.Token.{Token}
 use Rattle.sq_token.specs.declared.token.TokenKind.{TokenKind}
 use Rattle.sq_ast.specs.declared.statement.Statement.{Statement}
@@ -17,12 +17,6 @@ use Rattle.sq_ast.specs.Reading.{pieces, onto_first, place, places, both, is_sha
 use Rattle.sq_parse.specs.declared.fault.ParseFault.{ParseFault}
 use Rattle.sq_parse.specs.declared.fault.ParseFault.TheVariants as faults
 use Rattle.sq_parse.specs.Causes.{Faults, adds}
-
-pub kinds_length : (ts : List Token) → length (kinds ts) ≡ length ts
-kinds_length ts = length-map ts (λ t. t.kind)
-
-pub next_shorter : (ts us : List Token) (t : TokenKind) → kinds ts ≡ t ∷ kinds us → length ts ≡ suc (length us)
-next_shorter ts us t e = let same : length (kinds ts) ≡ suc (length (kinds us)) = ap length e in omega (arith, kinds_length ts, kinds_length us)
 
 -- ---- depth
 

@@ -1,4 +1,2 @@
-pub mod Answers
 pub mod Parts
 pub mod Causes
-pub mod Lookahead

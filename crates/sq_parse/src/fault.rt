@@ -1,9 +1,7 @@
 //! Why tokens spell no statements.
 ghost use Rattle.std.specs.Prelude.{◌≡◌};
 ghost use Rattle.sq_parse.specs.declared.fault.ParseFault.TheVariants as faults;
-ghost use Rattle.sq_parse.specs.declared.fault.Stop.TheVariants.{Memory};
 
-use sq_value::NoMemory;
 use std::alloc::{AllocError, AllocFailed};
 
 /// Why tokens spell no statements: the first statement that is too deep or not spelled, by its number. In one
@@ -16,37 +14,6 @@ pub enum ParseFault {
     TooDeep { number: u32 },
     /// Memory ran out. No statement is its cause.
     Memory,
-}
-
-/// Why one statement, or a part of it, was not read.
-#[derive(Clone, Copy, Debug, PartialEq, Eq)]
-pub(crate) enum Stop {
-    NotGrammar,
-    Memory,
-}
-
-impl From<AllocError> for Stop {
-    ghost from_gives = { λ _ e. e ≡ Memory };
-
-    fn from(_: AllocError) -> Self {
-        Stop::Memory
-    }
-}
-
-impl<T: Drop> From<AllocFailed<T>> for Stop {
-    ghost from_gives = { λ _ e. e ≡ Memory };
-
-    fn from(_: AllocFailed<T>) -> Self {
-        Stop::Memory
-    }
-}
-
-impl From<NoMemory> for Stop {
-    ghost from_gives = { λ _ e. e ≡ Memory };
-
-    fn from(_: NoMemory) -> Self {
-        Stop::Memory
-    }
 }
 
 impl From<AllocError> for ParseFault {

@@ -11,10 +11,11 @@ ghost use Rattle.sq_ast.specs.Reading as r;
 ghost use Rattle.sq_parse.specs.declared.fault.ParseFault.TheVariants.{Memory};
 ghost use Rattle.sq_parse.specs.Causes.{HasCause, fault_of, Faults, listed, adds};
 
-use crate::fault::{ParseFault, Stop};
+use crate::fault::ParseFault;
 use crate::statement::statement;
-use crate::step::{is_symbol, next_token};
 use sq_ast::Statement;
+use sq_terms::Stop;
+use sq_terms::step::{is_symbol, next_token};
 use sq_token::{Symbol, Token, TokenKind};
 use std::alloc::Global;
 

@@ -3,15 +3,17 @@ ghost use Rattle.std.specs.Prelude.{◌≡◌, ◌<◌, ◌^◌, Some, None, len
 ghost use Rattle.sq_ast.specs.Parser.{many};
 ghost use Rattle.sq_ast.specs.Spelling.{kinds};
 ghost use Rattle.sq_ast.specs.Reading as r;
-ghost use Rattle.sq_parse.specs.declared.fault.Stop.TheVariants.{NotGrammar};
-ghost use Rattle.sq_parse.specs.Answers.{Reads};
+ghost use Rattle.sq_terms.specs.declared.stops.Stop.TheVariants.{NotGrammar};
+ghost use Rattle.sq_terms.specs.Answers.{Reads};
 
-use crate::fault::Stop;
-use crate::list::listed;
-use crate::name::name;
 use crate::query::query_chain;
-use crate::step::{Parsed, eat_symbol, eat_word, expect_symbol, expect_word, is_word, next_token};
 use sq_ast::{Body, ColumnTree, Flavour, TypeName};
+use sq_terms::Stop;
+use sq_terms::list::listed;
+use sq_terms::name::name;
+use sq_terms::step::{
+    Parsed, eat_symbol, eat_word, expect_symbol, expect_word, is_word, next_token,
+};
 use sq_token::{Symbol, Token, TokenKind};
 use sqlite_items::Items;
 use std::alloc::Global;
@@ -166,7 +168,7 @@ fn create<'a>(alloc: Global, depth: usize, tokens: &'a [Token]) -> Parsed<'a, Bo
 }
 
 /// The statement that all of the tokens spell.
-#[tactic(auto, using(crate::proofs::Places::kinds_length), unfolding(sq_ast::specs::Reading::statement))]
+#[tactic(auto, using(sq_terms::proofs::Shorter::kinds_length), unfolding(sq_ast::specs::Reading::statement))]
 pub(crate) fn statement(alloc: Global, tokens: &[Token]) -> Result<Body, Stop>
     ensures { MatchResult result (λ body. r.statement (kinds tokens.now) ≡ Some body) (λ stop. stop ≡ NotGrammar → r.statement (kinds tokens.now) ≡ None) }
 {

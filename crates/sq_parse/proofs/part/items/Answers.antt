@@ -2,7 +2,7 @@ use Rattle.sq_ast.specs.Spelling.{kinds}
 use Rattle.sq_ast.specs.Reading as r
 use Rattle.sq_ast.proofs.Soundness.{level_sound}
 use Rattle.sq_ast.proofs.Loops.{items_step}
-use Rattle.sq_parse.proofs.Chains.{goes, falls, ends, chain_stopped}
+use Rattle.sq_terms.proofs.Chains.{goes, falls, ends, chain_stopped}
 use Rattle.sq_parse.proofs.part.items.Goals as goal
 
 pub returns-in_err-next : goal.returns-in_err-next

@@ -2,7 +2,8 @@ use Rattle.std.proofs.Common.{sym, ◌∙◌, ◌≡◌, suc, length, arith}
 use Rattle.sq_ast.specs.Spelling.{kinds}
 use Rattle.sq_ast.specs.Words as w
 use Rattle.sq_ast.specs.Words.{is_token}
-use Rattle.sq_parse.proofs.Places.{next_shorter, one_more, shallow_from, shallow_end, shallow_not, shallow_on}
+use Rattle.sq_terms.proofs.Shorter.{next_shorter}
+use Rattle.sq_parse.proofs.Places.{one_more, shallow_from, shallow_end, shallow_not, shallow_on}
 use Rattle.sq_parse.proofs.program.is_shallow.Goals as goal
 
 pub tokens-init : goal.tokens-init

@@ -2,7 +2,7 @@ use Rattle.sq_ast.specs.Spelling.{kinds}
 use Rattle.sq_ast.specs.Reading as r
 use Rattle.sq_ast.proofs.Soundness.{level_sound}
 use Rattle.sq_ast.proofs.Loops.{joined_step, operands_step, queries_step}
-use Rattle.sq_parse.proofs.Chains.{goes, falls, ends, chain_stopped}
+use Rattle.sq_terms.proofs.Chains.{goes, falls, ends, chain_stopped}
 use Rattle.sq_parse.proofs.query.+query.Goals as goal
 
 pub sources-returns-in_err-next : goal.sources-returns-in_err-next

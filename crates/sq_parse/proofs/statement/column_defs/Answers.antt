@@ -1,6 +1,6 @@
 use Rattle.sq_ast.specs.Spelling.{kinds}
 use Rattle.sq_ast.proofs.Loops.{columns_step}
-use Rattle.sq_parse.proofs.Chains.{goes, falls, ends, chain_stopped}
+use Rattle.sq_terms.proofs.Chains.{goes, falls, ends, chain_stopped}
 use Rattle.sq_parse.proofs.statement.column_defs.Goals as goal
 
 pub returns-in_err-next : goal.returns-in_err-next

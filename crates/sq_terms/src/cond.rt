@@ -4,16 +4,16 @@ ghost use Rattle.sq_token.specs.declared.token.TokenKind.TheVariants as token;
 ghost use Rattle.sq_ast.specs.Parser.{many};
 ghost use Rattle.sq_ast.specs.Spelling.{kinds};
 ghost use Rattle.sq_ast.specs.Reading as r;
-ghost use Rattle.sq_parse.specs.Answers.{Reads};
-ghost use Rattle.sq_parse.specs.Lookahead as ahead;
-ghost use Rattle.sq_parse.specs.Lookahead.{Tells};
+ghost use Rattle.sq_terms.specs.Answers.{Reads};
+ghost use Rattle.sq_terms.specs.Lookahead as ahead;
+ghost use Rattle.sq_terms.specs.Lookahead.{Tells};
 
 use crate::expr::sum;
-use crate::fault::Stop;
 use crate::list::{all_of, any_of};
 use crate::step::{
     Parsed, eat_symbol, eat_word, expect_symbol, expect_word, is_symbol, next_token,
 };
+use crate::stops::Stop;
 use sq_ast::{CmpTree, CondTree, ExprTree};
 use sq_token::{Symbol, Token, TokenKind};
 use sqlite_items::{Boxed, Items};
@@ -269,7 +269,7 @@ fn ors<'a>(alloc: Global, depth: usize, tokens: &'a [Token]) -> Parsed<'a, Items
 /// `conj { OR conj }`
 #[cycle(cond)]
 #[tactic(auto, unfolding(sq_ast::specs::Reading::disj))]
-pub(crate) fn disj<'a>(alloc: Global, depth: usize, tokens: &'a [Token]) -> Parsed<'a, CondTree>
+pub fn disj<'a>(alloc: Global, depth: usize, tokens: &'a [Token]) -> Parsed<'a, CondTree>
     ensures { Reads result (r.disj (r.level depth) (kinds tokens.now)) }
 {
     let (first, rest) = conj(alloc, depth, tokens)?;

@@ -4,10 +4,10 @@ ghost use Rattle.std.specs.List.{list_any};
 ghost use Rattle.sq_ast.specs.Words as words;
 ghost use Rattle.sq_ast.specs.Spelling.{kinds};
 ghost use Rattle.sq_ast.specs.Reading as r;
-ghost use Rattle.sq_parse.specs.Answers.{Reads};
+ghost use Rattle.sq_terms.specs.Answers.{Reads};
 
-use crate::fault::Stop;
 use crate::step::{Parsed, eat_symbol, eat_word, next_token, skip_word};
+use crate::stops::Stop;
 use sq_ast::ColRef;
 use sq_token::{Symbol, Token, TokenKind};
 use sq_value::Str;
@@ -75,7 +75,7 @@ fn is_reserved(word: &str) -> bool
 
 /// A quoted name, or a word that is not reserved.
 #[tactic(auto, unfolding(sq_ast::specs::Reading::name, sq_ast::specs::Reading::name_of))]
-pub(crate) fn name<'a>(alloc: Global, tokens: &'a [Token]) -> Parsed<'a, Str>
+pub fn name<'a>(alloc: Global, tokens: &'a [Token]) -> Parsed<'a, Str>
     ensures { Reads result (r.name (kinds tokens.now)) }
 {
     match next_token(tokens) {
@@ -89,7 +89,7 @@ pub(crate) fn name<'a>(alloc: Global, tokens: &'a [Token]) -> Parsed<'a, Str>
 
 /// `[ AS ] name`
 #[tactic(auto, unfolding(sq_ast::specs::Reading::alias))]
-pub(crate) fn alias<'a>(alloc: Global, tokens: &'a [Token]) -> Parsed<'a, Str>
+pub fn alias<'a>(alloc: Global, tokens: &'a [Token]) -> Parsed<'a, Str>
     ensures { Reads result (r.alias (kinds tokens.now)) }
 {
     name(alloc, skip_word(tokens, "as"))
@@ -97,7 +97,7 @@ pub(crate) fn alias<'a>(alloc: Global, tokens: &'a [Token]) -> Parsed<'a, Str>
 
 /// `[ [ AS ] name ]`
 #[tactic(auto, unfolding(sq_ast::specs::Reading::maybe_alias))]
-pub(crate) fn maybe_alias<'a>(alloc: Global, tokens: &'a [Token]) -> Parsed<'a, Option<Str>>
+pub fn maybe_alias<'a>(alloc: Global, tokens: &'a [Token]) -> Parsed<'a, Option<Str>>
     ensures { Reads result (r.maybe_alias (kinds tokens.now)) }
 {
     if let Some(tokens) = eat_word(tokens, "as") {
@@ -113,7 +113,7 @@ pub(crate) fn maybe_alias<'a>(alloc: Global, tokens: &'a [Token]) -> Parsed<'a, 
 
 /// `name [ "." name ]`
 #[tactic(auto, unfolding(sq_ast::specs::Reading::col_ref))]
-pub(crate) fn col_ref<'a>(alloc: Global, tokens: &'a [Token]) -> Parsed<'a, ColRef>
+pub fn col_ref<'a>(alloc: Global, tokens: &'a [Token]) -> Parsed<'a, ColRef>
     ensures { Reads result (r.col_ref (kinds tokens.now)) }
 {
     let (first, rest) = name(alloc, tokens)?;

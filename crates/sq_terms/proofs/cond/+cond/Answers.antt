@@ -2,8 +2,8 @@ use Rattle.sq_ast.specs.Spelling.{kinds}
 use Rattle.sq_ast.specs.Reading as r
 use Rattle.sq_ast.proofs.Soundness.{level_sound}
 use Rattle.sq_ast.proofs.Loops.{ands_step, ors_step}
-use Rattle.sq_parse.proofs.Chains.{goes, falls, ends, chain_stopped}
-use Rattle.sq_parse.proofs.cond.+cond.Goals as goal
+use Rattle.sq_terms.proofs.Chains.{goes, falls, ends, chain_stopped}
+use Rattle.sq_terms.proofs.cond.+cond.Goals as goal
 
 pub ands-returns-in_err-next : goal.ands-returns-in_err-next
 ands-returns-in_err-next c c' =

@@ -2,8 +2,8 @@ use Rattle.sq_ast.specs.Spelling.{kinds}
 use Rattle.sq_ast.specs.Reading as r
 use Rattle.sq_ast.proofs.Soundness.{level_sound}
 use Rattle.sq_ast.proofs.Loops.{factors_step, terms_step}
-use Rattle.sq_parse.proofs.Chains.{goes, falls, ends, chain_stopped}
-use Rattle.sq_parse.proofs.expr.+expr.Goals as goal
+use Rattle.sq_terms.proofs.Chains.{goes, falls, ends, chain_stopped}
+use Rattle.sq_terms.proofs.expr.+expr.Goals as goal
 
 pub factors-returns-in_err-next : goal.factors-returns-in_err-next
 factors-returns-in_err-next c c' =

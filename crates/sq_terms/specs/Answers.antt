@@ -6,8 +6,8 @@ use Rattle.sq_token.specs.declared.token.TokenKind.{TokenKind}
 use Rattle.sq_ast.specs.Words.{Tokens}
 use Rattle.sq_ast.specs.Spelling.{kinds}
 use Rattle.sq_ast.specs.Parser.{sees, after}
-use Rattle.sq_parse.specs.declared.fault.Stop.{Stop}
-use Rattle.sq_parse.specs.declared.fault.Stop.TheVariants.{NotGrammar}
+use Rattle.sq_terms.specs.declared.stops.Stop.{Stop}
+use Rattle.sq_terms.specs.declared.stops.Stop.TheVariants.{NotGrammar}
 
 -- a tree and the tokens behind it are what is read, and without a tree nothing is, unless memory ran out
 abbrev pub Reads : {A : Type 0} → Result (A × Bor (List Token)) Stop → Option (A × Tokens) → Type 0

@@ -1,15 +1,15 @@
 //! Chains of members, and what they make.
 ghost use Rattle.std.specs.Prelude.{◌≡◌, ◌∷◌, MatchResult};
 ghost use Rattle.sq_ast.specs.Trees as trees;
-ghost use Rattle.sq_parse.specs.declared.fault.Stop.TheVariants.{Memory};
+ghost use Rattle.sq_terms.specs.declared.stops.Stop.TheVariants.{Memory};
 
-use crate::fault::Stop;
-use sq_ast::{CondTree, ExprTree, QueryTree, StepTree, TermTree};
-use sqlite_items::{Boxed, Items};
+use crate::stops::Stop;
+use sq_ast::{CondTree, ExprTree, TermTree};
+use sqlite_items::Items;
 use std::alloc::Global;
 
 /// The list of one member and those behind it.
-pub(crate) fn listed<T: Drop>(alloc: Global, first: T, more: Items<T>) -> Result<Items<T>, Stop>
+pub fn listed<T: Drop>(alloc: Global, first: T, more: Items<T>) -> Result<Items<T>, Stop>
     ensures { MatchResult result (λ list. list ≡ first ∷ more) (λ stop. stop ≡ Memory) }
 {
     let mut list = Items::new(alloc);
@@ -76,35 +76,4 @@ pub(crate) fn all_of(
         return Ok(first);
     }
     Ok(CondTree::All(listed(alloc, first, more)?))
-}
-
-#[tactic(auto, using(crate::proofs::Chains::chain_more), unfolding(sq_ast::specs::Trees::chain_of))]
-pub(crate) fn chain_of(
-    alloc: Global,
-    first: QueryTree,
-    more: Items<StepTree>,
-) -> Result<QueryTree, Stop>
-    ensures { MatchResult result (λ tree. tree ≡ trees.chain_of first more) (λ stop. stop ≡ Memory) }
-{
-    if more.is_empty() {
-        return Ok(first);
-    }
-    Ok(QueryTree::Chain {
-        first: Boxed::new(alloc, first)?,
-        rest: more,
-    })
-}
-
-#[tactic(auto, using(crate::proofs::Chains::intersect_more), unfolding(sq_ast::specs::Trees::intersect_of))]
-pub(crate) fn intersect_of(
-    alloc: Global,
-    first: QueryTree,
-    more: Items<QueryTree>,
-) -> Result<QueryTree, Stop>
-    ensures { MatchResult result (λ tree. tree ≡ trees.intersect_of first more) (λ stop. stop ≡ Memory) }
-{
-    if more.is_empty() {
-        return Ok(first);
-    }
-    Ok(QueryTree::Intersect(listed(alloc, first, more)?))
 }

@@ -8,15 +8,12 @@ use Rattle.sq_ast.specs.declared.expr.ExprTree.TheVariants as expr
 use Rattle.sq_ast.specs.declared.expr.TermTree.{TermTree}
 use Rattle.sq_ast.specs.declared.cond.CondTree.{CondTree}
 use Rattle.sq_ast.specs.declared.cond.CondTree.TheVariants as condition
-use Rattle.sq_ast.specs.declared.query.QueryTree.{QueryTree}
-use Rattle.sq_ast.specs.declared.query.QueryTree.TheVariants as query
-use Rattle.sq_ast.specs.declared.query.StepTree.{StepTree}
 use Rattle.sq_ast.specs.Words.{Tokens}
-use Rattle.sq_ast.specs.Trees.{term, sum_of, product_of, any_of, all_of, chain_of, intersect_of}
+use Rattle.sq_ast.specs.Trees.{term, sum_of, product_of, any_of, all_of}
 use Rattle.sq_ast.specs.Parser.{Parser, many}
-use Rattle.sq_parse.specs.Answers.{Reads}
-use Rattle.sq_parse.specs.declared.fault.Stop.{Stop}
-use Rattle.sq_parse.specs.declared.fault.Stop.TheVariants.{NotGrammar}
+use Rattle.sq_terms.specs.Answers.{Reads}
+use Rattle.sq_terms.specs.declared.stops.Stop.{Stop}
+use Rattle.sq_terms.specs.declared.stops.Stop.TheVariants.{NotGrammar}
 use Rattle.sq_ast.proofs.Loops.{Steps, with_front, front_stop, front_step, front_refuse}
 
 pub sum_more : (first : ExprTree) (more : List TermTree) → more ≢ [] → sum_of first more ≡ expr.Sum (term false first ∷ more)
@@ -38,16 +35,6 @@ pub all_more : (first : CondTree) (more : List CondTree) → more ≢ [] → all
 unfolding all_of
 all_more first [] h = absurd (h refl)
 all_more first (second ∷ more) h = refl
-
-pub chain_more : (first : QueryTree) (more : List StepTree) → more ≢ [] → chain_of first more ≡ query.Chain first more
-unfolding chain_of
-chain_more first [] h = absurd (h refl)
-chain_more first (second ∷ more) h = refl
-
-pub intersect_more : (first : QueryTree) (more : List QueryTree) → more ≢ [] → intersect_of first more ≡ query.Intersect (first ∷ more)
-unfolding intersect_of
-intersect_more first [] h = absurd (h refl)
-intersect_more first (second ∷ more) h = refl
 
 -- ---- what a loop keeps: the members that were found, followed by what is still read, are what is read in all
 

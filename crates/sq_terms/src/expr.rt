@@ -6,12 +6,12 @@ ghost use Rattle.std.specs.Prelude.{◌≡◌, ◌∷◌};
 ghost use Rattle.sq_ast.specs.Parser.{many};
 ghost use Rattle.sq_ast.specs.Spelling.{kinds};
 ghost use Rattle.sq_ast.specs.Reading as r;
-ghost use Rattle.sq_parse.specs.Answers.{Reads};
+ghost use Rattle.sq_terms.specs.Answers.{Reads};
 
-use crate::fault::Stop;
 use crate::list::{product_of, sum_of};
 use crate::name::col_ref;
 use crate::step::{Parsed, eat_symbol, expect_symbol, is_word, next_token};
+use crate::stops::Stop;
 use sq_ast::{ExprTree, FuncTree, TermTree};
 use sq_token::{Symbol, Token, TokenKind};
 use sqlite_items::{Boxed, Items};
@@ -220,7 +220,7 @@ fn terms<'a>(alloc: Global, depth: usize, tokens: &'a [Token]) -> Parsed<'a, Ite
 /// `prod { ( "+" | "-" ) prod }`
 #[cycle(expr)]
 #[tactic(auto, unfolding(sq_ast::specs::Reading::sum))]
-pub(crate) fn sum<'a>(alloc: Global, depth: usize, tokens: &'a [Token]) -> Parsed<'a, ExprTree>
+pub fn sum<'a>(alloc: Global, depth: usize, tokens: &'a [Token]) -> Parsed<'a, ExprTree>
     ensures { Reads result (r.sum (r.level depth) (kinds tokens.now)) }
 {
     let (first, rest) = product(alloc, depth, tokens)?;

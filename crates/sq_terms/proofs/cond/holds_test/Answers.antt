@@ -1,8 +1,8 @@
 use Rattle.std.proofs.Common.{◌≡◌, length, suc, sym, ◌∙◌, Some, None, arith}
 use Rattle.sq_ast.specs.Spelling.{kinds}
-use Rattle.sq_parse.proofs.Places.{next_shorter}
-use Rattle.sq_parse.proofs.Operands.{test_end, test_here, test_later, no_deeper}
-use Rattle.sq_parse.proofs.cond.holds_test.Goals as goal
+use Rattle.sq_terms.proofs.Shorter.{next_shorter}
+use Rattle.sq_terms.proofs.Operands.{test_end, test_here, test_later, no_deeper}
+use Rattle.sq_terms.proofs.cond.holds_test.Goals as goal
 
 pub returns-in_default : goal.returns-in_default
 returns-in_default c = sym (test_end c.tokens.depth (kinds c.tokens.rest.now) c.in_default.ensures) ∙ c.tokens.invariant.1

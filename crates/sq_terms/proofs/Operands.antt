@@ -19,7 +19,7 @@ use Rattle.sq_ast.specs.Parser.{sees, after}
 use Rattle.sq_ast.proofs.TokenLemmas.{bytes_same}
 use Rattle.sq_ast.proofs.ParserLemmas.{Yields, seen, y_expect, y_weaken, y_nested}
 use Rattle.sq_ast.proofs.Soundness.{sum_sound, level_sound}
-use Rattle.sq_parse.specs.Lookahead.{is_test, one_less, depth_behind, where_open, holds_test, Tells}
+use Rattle.sq_terms.specs.Lookahead.{is_test, one_less, depth_behind, where_open, holds_test, Tells}
 
 -- ---- token by token
 

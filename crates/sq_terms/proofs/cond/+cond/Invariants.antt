@@ -4,7 +4,7 @@ use Rattle.sq_ast.specs.Parser.{many}
 use Rattle.sq_ast.specs.Spelling.{kinds}
 use Rattle.sq_ast.specs.Reading as r
 use Rattle.sq_ast.proofs.Loops.{with_front}
-use Rattle.sq_parse.proofs.cond.+cond.Given as goal
+use Rattle.sq_terms.proofs.cond.+cond.Given as goal
 
 abbrev pub decreases-nested_cond : goal.decreases-nested_cond
 decreases-nested_cond l = 16 * l.depth + 0

@@ -4,7 +4,7 @@ use Rattle.sq_ast.specs.Parser.{many}
 use Rattle.sq_ast.specs.Spelling.{kinds}
 use Rattle.sq_ast.specs.Reading as r
 use Rattle.sq_ast.proofs.Loops.{with_front}
-use Rattle.sq_parse.proofs.expr.+expr.Given as goal
+use Rattle.sq_terms.proofs.expr.+expr.Given as goal
 
 abbrev pub decreases-nested_expr : goal.decreases-nested_expr
 decreases-nested_expr l = 16 * l.depth + 0
