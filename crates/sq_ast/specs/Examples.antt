@@ -20,7 +20,8 @@ use Rattle.sq_ast.specs.declared.statement.Statement.{Statement}
 use Rattle.sq_ast.specs.declared.statement.Body.TheVariants as body
 use Rattle.sq_ast.specs.declared.statement.Flavour.TheVariants.{Materialized, Local}
 use Rattle.sq_ast.specs.declared.statement.TypeName.TheVariants as type
-use Rattle.sq_ast.specs.Words.{Tokens, Text, LEFT_PAREN, RIGHT_PAREN, COMMA, SEMICOLON, DOT, STAR, PLUS, MINUS, EQUAL, LESS, CREATE, TABLE, MATERIALIZED, LOCAL, VIEW, AS, NOT, NULL, INT, INTEGER, VARCHAR, TEXT, UNION, ALL, DISTINCT, EXCEPT, INTERSECT, SELECT, FROM, WHERE, GROUP, BY, HAVING, CROSS, JOIN, INNER, LEFT, OUTER, ON, OR, AND, IS, COUNT, SUM, MIN}
+use Rattle.sq_ast.specs.Words.{Tokens, Text, LEFT_PAREN, RIGHT_PAREN, COMMA, SEMICOLON, DOT, STAR, PLUS, MINUS, EQUAL, LESS, CREATE, TABLE, MATERIALIZED, LOCAL, VIEW, AS, NOT, NULL, INT, INTEGER, VARCHAR, TEXT}
+use Rattle.sq_ast.specs.Words.{UNION, ALL, DISTINCT, EXCEPT, INTERSECT, SELECT, FROM, WHERE, GROUP, BY, HAVING, CROSS, JOIN, INNER, LEFT, OUTER, ON, OR, AND, IS, COUNT, SUM, MIN}
 use Rattle.sq_ast.specs.Spelling.{SpellsProgram}
 use Rattle.sq_ast.specs.Trees.{term, step, joined, block_of}
 

@@ -15,7 +15,7 @@ pub enum CondTree {
         left: ExprTree,
         right: ExprTree,
     },
-    /// `IS NULL`, or `IS NOT NULL` where it is negated.
+    /// `IS NULL`, or `IS NOT NULL` if it is negated.
     Null {
         expr: ExprTree,
         negated: bool,

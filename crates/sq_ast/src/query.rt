@@ -44,7 +44,7 @@ pub struct BlockTree {
     pub sources: Items<JoinedTree>,
     /// The condition of `WHERE`.
     pub filter: Option<CondTree>,
-    /// The columns of `GROUP BY`. Empty exactly where the block has none.
+    /// The columns of `GROUP BY`. Empty exactly if the block has none.
     pub group: Items<ColRef>,
     pub having: Option<CondTree>,
 }

@@ -40,8 +40,8 @@ impl Model for MemSink {
 
 impl MemSink {
     /// An empty sink with room for `room` bytes. A call takes at most `piece` bytes, and at least
-    /// one where `piece` is 0. Calls are numbered from 0, in 64 bits. Exactly those whose number is
-    /// in `failing` fail, and those with bytes where no room is left.
+    /// one if `piece` is 0. Calls are numbered from 0, in 64 bits. Exactly those whose number is
+    /// in `failing` fail, and those with bytes if no room is left.
     ///
     /// All the memory that it ever takes is taken here.
     pub fn new(

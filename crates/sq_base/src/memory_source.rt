@@ -36,7 +36,7 @@ impl Model for MemSource {
 }
 
 impl MemSource {
-    /// A source of these bytes. A call gives at most `piece` of them, and at least one byte where
+    /// A source of these bytes. A call gives at most `piece` of them, and at least one byte if
     /// `piece` is 0. Calls are numbered from 0, in 64 bits, and exactly those whose number is in
     /// `failing` fail. Takes no memory.
     pub fn new(bytes: Vec<u8>, piece: usize, failing: Vec<u64>) -> MemSource

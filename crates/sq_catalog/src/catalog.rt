@@ -38,8 +38,8 @@ impl Catalog {
 
     /// Puts a relation behind the others.
     ///
-    /// The catalogue has fewer than 2^32 - 1 relations. The answer is `DuplicateName` exactly where a relation has this name
-    /// already, and `Memory` where memory runs out; then the catalogue is as it was, and the relation is let go.
+    /// The catalogue has fewer than 2^32 - 1 relations. The answer is `DuplicateName` exactly if a relation has this name
+    /// already, and `Memory` if memory runs out; then the catalogue is as it was, and the relation is let go.
     pub fn add(&mut self, alloc: Global, relation: Relation) -> Result<(), CatalogFault>
         requires few { length self.old < 2 ^ 32 - 1 }
         ensures ok { OnOk result (self.new ≡ self.old ++ relation ∷ []) }

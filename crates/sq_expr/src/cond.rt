@@ -6,7 +6,7 @@ use sqlite_items::{Boxed, Items};
 #[derive(Debug, Drop)]
 pub enum Cond {
     Compare { cmp: Cmp, left: Expr, right: Expr },
-    /// `IS NULL`, or `IS NOT NULL` where it is negated.
+    /// `IS NULL`, or `IS NOT NULL` if it is negated.
     Null { expr: Expr, negated: bool },
     Not(Boxed<Cond>),
     /// All of these hold.

@@ -7,7 +7,7 @@ use sqlite_items::{Boxed, Items};
 use std::alloc::Global;
 
 impl Expr {
-    /// An expression of its own that is the same, or `NoMemory` where memory runs out.
+    /// An expression of its own that is the same, or `NoMemory` if memory runs out.
     #[cycle(copy)]
     pub fn clone_expr(&self, alloc: Global) -> Result<Expr, NoMemory>
         ensures equal { IfOk result (λ copy. copy ≡ self.now) }
@@ -52,7 +52,7 @@ fn clone_factors(alloc: Global, factors: &Items<Expr>) -> Result<Items<Expr>, No
 }
 
 impl Cond {
-    /// A condition of its own that is the same, or `NoMemory` where memory runs out.
+    /// A condition of its own that is the same, or `NoMemory` if memory runs out.
     #[cycle(copy_cond)]
     pub fn clone_cond(&self, alloc: Global) -> Result<Cond, NoMemory>
         ensures equal { IfOk result (λ copy. copy ≡ self.now) }

@@ -54,7 +54,7 @@ pub fn widths()
     ensures typed_cond { (kinds : List ColumnKind) (c : Condition) → IsTypedCond kinds c → width_of (cond_columns c) ≤ length kinds }
 {}
 
-/// A conjunction is True exactly where each of its members is. It names what they name, in their order, so no
+/// A conjunction is True exactly if each of its members is. It names what they name, in their order, so no
 /// member is wider.
 #[tactic(auto, using(crate::proofs::Names::conjunction, crate::proofs::Names::true_by_members, crate::proofs::Names::names_of_members, crate::proofs::Names::members_narrower))]
 pub fn conjunctions()
@@ -85,7 +85,7 @@ pub fn typed_values()
     ensures text { (x : Datum) → IsOfSort Textual x → IsOfKind x kind.Text }
 {}
 
-/// A column that is there suits, and a conjunction suits where its members do. What suits some columns suits
+/// A column that is there suits, and a conjunction suits if its members do. What suits some columns suits
 /// them with more behind them, and without those that it does not name.
 #[tactic(auto, using(crate::proofs::Kept::column_suits, crate::proofs::Kept::members_suit, crate::proofs::Kept::conjunction_suits, crate::proofs::Kept::suits_more, crate::proofs::Kept::suits_fewer, crate::proofs::Kept::suits_cond_more, crate::proofs::Kept::suits_cond_fewer))]
 pub fn suiting()

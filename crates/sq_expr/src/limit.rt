@@ -6,7 +6,7 @@ ghost use Rattle.sq_expr.specs.Bounds.{IsBounded, bound_of, kind_bound};
 use crate::{Expr, Kind};
 
 /// The static bound of the expression over columns of these kinds: what its absolute value is at most on any
-/// row of these kinds. None where the bound of the expression or of one in it is above 2^127 - 1. A text
+/// row of these kinds. None if the bound of the expression or of one in it is above 2^127 - 1. A text
 /// counts as 0. Takes no memory.
 pub fn bound(expr: &Expr, kinds: &[Kind]) -> Option<u128>
     ensures { MatchOption result (¬ IsBounded kinds.now expr.now) (λ bound. (bound ≡ bound_of kinds.now expr.now) × IsBounded kinds.now expr.now) }
@@ -33,7 +33,7 @@ pub fn bound(expr: &Expr, kinds: &[Kind]) -> Option<u128>
     })
 }
 
-// The bound of a column; 0 where there is none.
+// The bound of a column; 0 if there is none.
 fn column_bound(kinds: &[Kind], at: u32) -> u128
     ensures { result ≡ unwrap_or (option_map kind_bound (slice_get kinds.now at)) 0 }
 {
@@ -44,7 +44,7 @@ fn column_bound(kinds: &[Kind], at: u32) -> u128
     }
 }
 
-// The bound, where it is at most 2^127 - 1.
+// The bound, if it is at most 2^127 - 1.
 fn within_limit(bound: u128) -> Option<u128>
     ensures { MatchOption result (2 ^ 127 ≤ bound) (λ kept. (kept ≡ bound) × (bound < 2 ^ 127)) }
 {

@@ -31,7 +31,7 @@ impl<'a> Num<'a> {
         }
     }
 
-    // The sum of the two, or their difference where `minus` is true, in 128 bits.
+    // The sum of the two, or their difference if `minus` is true, in 128 bits.
     pub(crate) fn add(self, minus: bool, other: Num<'a>) -> Num<'a>
         ensures { value_of result ≡ wrapped (of_both ◌+ℤ◌ (value_of self.entry) (signed minus (value_of other.entry))) }
     {

@@ -21,7 +21,7 @@ pub enum Sort {
     Textual,
 }
 
-/// What the expression computes over columns of these kinds. None where it has no type: it names a column that
+/// What the expression computes over columns of these kinds. None if it has no type: it names a column that
 /// is not there, or does arithmetic with texts. Takes no memory.
 pub fn expr_sort(expr: &Expr, kinds: &[Kind]) -> Option<Sort>
     ensures { result ≡ sort_of kinds.now expr.now }

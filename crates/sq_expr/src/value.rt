@@ -45,7 +45,7 @@ impl From<NoMemory> for ItemFault {
     }
 }
 
-/// The number in 64 bits. `OutOfRange` exactly where it lies outside the range of BIGINT. Takes
+/// The number in 64 bits. `OutOfRange` exactly if it lies outside the range of BIGINT. Takes
 /// no memory.
 pub fn to_i64(value: i128) -> Result<i64, OutOfRange>
     ensures { MatchResult result (λ number. (number ≡ value) × FitsSigned w64 value) (λ fault. (fault.value ≡ value) × ¬ FitsSigned w64 value) }
@@ -55,7 +55,7 @@ pub fn to_i64(value: i128) -> Result<i64, OutOfRange>
 
 /// The expression on the row, as a value that a row can hold. The row must be of kinds that the expression suits.
 ///
-/// `ItemFault::Value` comes exactly where it is a number outside the range of BIGINT. Only a text takes memory.
+/// `ItemFault::Value` comes exactly if it is a number outside the range of BIGINT. Only a text takes memory.
 pub fn item(alloc: Global, expr: &Expr, row: &Row) -> Result<Value, ItemFault>
     requires { Fits expr.now row.now }
     ensures { MatchResult result (λ value. (value ≡ num expr.now row.now) × IsStorable (num expr.now row.now)) (λ fault. HasCause fault (num expr.now row.now)) }

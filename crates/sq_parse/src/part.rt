@@ -17,7 +17,7 @@ use sq_token::{Symbol, Token};
 use sqlite_items::Items;
 use std::alloc::Global;
 
-/// A set operation other than `INTERSECT`, where one comes next, and the tokens behind it.
+/// A set operation other than `INTERSECT`, if one comes next, and the tokens behind it.
 #[tactic(auto, unfolding(sq_ast::specs::Reading::set_op))]
 pub(crate) fn set_op(tokens: &[Token]) -> (Option<SetOp>, &[Token])
     ensures { r.set_op (kinds tokens.now) ≡ Some (result.0, kinds result.1.now) }

@@ -129,7 +129,7 @@ fn read(alloc: Global, tokens: &[Token]) -> Result<Vec<Statement>, ParseFault>
 /// semicolons before it.
 ///
 /// Statements stand between semicolons, and a place may be empty. Tokens that spell no statements are refused
-/// with the number of the first statement that is too deep or not spelled by the grammar; where one is both,
+/// with the number of the first statement that is too deep or not spelled by the grammar; if one is both,
 /// it is too deep. `ParseFault::Memory` says that memory ran out. The trees own their texts.
 pub fn statements(alloc: Global, tokens: &[Token]) -> Result<Vec<Statement>, ParseFault>
     requires short { length tokens.now < 2 ^ 32 - 1 }

@@ -98,7 +98,7 @@ fn joined_on<'a>(
     Ok((Some(JoinedTree { join, source }), rest))
 }
 
-/// A further source, where one comes next.
+/// A further source, if one comes next.
 #[cycle(query)]
 #[tactic(auto, unfolding(sq_ast::specs::Reading::next_joined))]
 fn next_joined<'a>(

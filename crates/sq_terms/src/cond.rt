@@ -73,7 +73,7 @@ fn is_test(kind: &TokenKind) -> bool
     }
 }
 
-/// How many levels further inside the next token stands. `None` where this one closes the parenthesis.
+/// How many levels further inside the next token stands. `None` if this one closes the parenthesis.
 #[tactic(auto, unfolding(crate::specs::Lookahead::depth_behind))]
 fn depth_behind(depth: usize, kind: &TokenKind) -> Option<usize>
     requires { depth < 2 ^ 64 - 1 }

@@ -8,7 +8,7 @@ use sq_value::Str;
 use std::alloc::Global;
 
 /// Reads quoted characters up to the quote that ends them: what they say, and how many bytes they take
-/// with that quote. `None` where no quote ends them.
+/// with that quote. `None` if no quote ends them.
 pub(crate) fn quoted(
     alloc: Global,
     quote: char,

@@ -1,7 +1,7 @@
 //! Out-of-memory, as an answer of calls.
 use std::alloc::{AllocError, AllocFailed};
 
-/// Want of memory. The one answer that no contract ties to a cause.
+/// Memory ran out. This is the only answer that no contract ties to a cause.
 #[derive(Clone, Copy, Debug, PartialEq, Eq)]
 pub struct NoMemory;
 

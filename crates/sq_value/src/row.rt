@@ -59,7 +59,7 @@ impl Row {
         &self.values
     }
 
-    /// A row of its own with the same values, or `NoMemory` where memory runs out.
+    /// A row of its own with the same values, or `NoMemory` if memory runs out.
     pub fn clone_row(&self, alloc: Global) -> Result<Row, NoMemory>
         ensures equal { IfOk result (λ copy. copy ≡ self.now) }
     {

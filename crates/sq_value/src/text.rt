@@ -30,7 +30,7 @@ impl Model for Str {
 }
 
 impl Str {
-    /// A copy of `text`, or `NoMemory` where memory runs out.
+    /// A copy of `text`, or `NoMemory` if memory runs out.
     pub fn of(alloc: Global, text: &str) -> Result<Str, NoMemory>
         ensures equal { IfOk result (λ copy. copy ≡ text.now) }
     {
@@ -45,7 +45,7 @@ impl Str {
         self.text.as_str()
     }
 
-    /// A text of its own with the same bytes, or `NoMemory` where memory runs out.
+    /// A text of its own with the same bytes, or `NoMemory` if memory runs out.
     pub fn clone_str(&self, alloc: Global) -> Result<Str, NoMemory>
         ensures equal { IfOk result (λ copy. copy ≡ self.now) }
     {

@@ -13,9 +13,8 @@ use std::hash::{Hash, Hasher};
 
 /// A value of a column.
 ///
-/// NULL comes first, then numbers by size, then texts by their bytes. This is the order in which
-/// rows are kept, and in it NULL equals NULL: what a condition of SQL makes of a comparison with
-/// NULL is no matter of this type.
+/// NULL comes first, then numbers by size, then texts by their bytes. Rows are kept in this order,
+/// in which NULL equals NULL. A comparison with NULL in a condition of SQL is another matter.
 #[derive(Debug, Drop)]
 pub enum Value {
     /// No value.
@@ -27,7 +26,7 @@ pub enum Value {
 }
 
 impl Value {
-    /// A value of its own that is the same, or `NoMemory` where memory runs out.
+    /// A value of its own that is the same, or `NoMemory` if memory runs out.
     pub fn clone_value(&self, alloc: Global) -> Result<Value, NoMemory>
         ensures equal { IfOk result (λ copy. copy ≡ self.now) }
     {
