@@ -1,5 +1,5 @@
 //! A sink in memory that fails when it is told to.
-ghost use Rattle.std.specs.Prelude.{◌≡◌, ◌↔◌, ℕ, ◌+◌, ◌≤◌, ◌<◌, ◌++◌, length, Some, IsErr, IfOk, OnOk, OnErr, vec_capacity, vec_len};
+ghost use Rattle.std.specs.Prelude.{◌≡◌, ◌↔◌, ◌+◌, ◌≤◌, ◌<◌, ◌++◌, length, Some, IsErr, IfOk, OnOk, OnErr, vec_capacity, vec_len};
 ghost use Rattle.std.specs.Io.KnownBytes.{WriteAppends};
 ghost use Rattle.sq_base.specs.Causes.{HasCause, raised};
 ghost use Rattle.sq_base.specs.MemSink.{new_store, FailsNext, taken_count};

@@ -1,5 +1,5 @@
 //! A source in memory that fails when it is told to.
-ghost use Rattle.std.specs.Prelude.{◌≡◌, ◌↔◌, ℕ, ◌≤◌, length, take, min, Some, IsErr, IfOk, OnOk, OnErr};
+ghost use Rattle.std.specs.Prelude.{◌≡◌, ◌↔◌, ◌≤◌, length, take, min, Some, IsErr, IfOk, OnOk, OnErr};
 ghost use Rattle.std.specs.Io.KnownBytes.{ReadConsumes};
 ghost use Rattle.sq_base.specs.Causes.{HasCause, raised};
 ghost use Rattle.sq_base.specs.MemSource.{new_supply, FailsNext, given_count};

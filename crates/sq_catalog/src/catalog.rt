@@ -15,7 +15,7 @@ pub struct Catalog {
 }
 
 impl Model for Catalog {
-    ghost use Rattle.std.specs.Prelude.{List, map};
+    ghost use Rattle.std.specs.Prelude.{List};
     ghost use Rattle.sq_catalog.specs.declared.relation.Relation.{Relation as Created};
     ghost use Rattle.sq_catalog.specs.Names.{created, IsByName};
 

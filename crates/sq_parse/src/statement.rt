@@ -1,5 +1,5 @@
 //! Statements.
-ghost use Rattle.std.specs.Prelude.{◌≡◌, ◌<◌, ◌^◌, Some, None, length, MatchResult};
+ghost use Rattle.std.specs.Prelude.{◌≡◌, ◌<◌, Some, None, MatchResult};
 ghost use Rattle.sq_ast.specs.Parser.{many};
 ghost use Rattle.sq_ast.specs.Spelling.{kinds};
 ghost use Rattle.sq_ast.specs.Reading as r;

@@ -1,5 +1,5 @@
 //! Names, aliases and columns.
-ghost use Rattle.std.specs.Prelude.{◌≡◌, bytes_eq, IfOk};
+ghost use Rattle.std.specs.Prelude.{◌≡◌, bytes_eq};
 ghost use Rattle.std.specs.List.{list_any};
 ghost use Rattle.sq_ast.specs.Words as words;
 ghost use Rattle.sq_ast.specs.Spelling.{kinds};
