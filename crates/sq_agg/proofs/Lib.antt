@@ -1,7 +1,6 @@
 pub mod Placing
 pub mod Keys
 pub mod Shown
-pub mod Testing
 pub mod PlaceOrder
 pub mod Adding
 pub mod Bounding

@@ -73,7 +73,7 @@ in_order_last xs x =
 -- ---- the first n rows
 module _ (spec : AggSpec) (es : List (List Value × ℤ)) where
   abbrev keys_if : Bool → ℕ → List (List Value)
-  keys_if b n = cond b ([] ∷ []) (in_order row_cmp (map (λ e. columns_of (cond b [] spec.group.items) e.0) (take n es)))
+  keys_if b n = cond b ([] ∷ []) (in_order row_cmp (map (λ e. columns_of (cond b [] spec.group) e.0) (take n es)))
 
   abbrev keys_to : ℕ → List (List Value)
   keys_to n = keys_if spec.global n
@@ -89,11 +89,11 @@ module _ (spec : AggSpec) (es : List (List Value × ℤ)) where
   module _ (n : ℕ) (row : List Value) (w : ℤ) (found : slice_get es n ≡ Some (row, w)) where
     keys_more : place row_cmp (group_of spec row) (keys_to n) ≡ keys_to (n + 1)
     keys_more =
-        elim spec.global as (λ b. place row_cmp (columns_of (cond b [] spec.group.items) row) (keys_if b n) ≡ keys_if b (n + 1)) [
+        elim spec.global as (λ b. place row_cmp (columns_of (cond b [] spec.group) row) (keys_if b n) ≡ keys_if b (n + 1)) [
           | true ↦ refl
           | false ↦
-              in_order_last (map (λ e. columns_of spec.group.items e.0) (take n es)) (columns_of spec.group.items row)
-              ∙ ap (in_order row_cmp) (sym (ap (map (λ e. columns_of spec.group.items e.0)) (take_more es n (row, w) found) ∙ map-append (λ e. columns_of spec.group.items e.0) (take n es) ((row, w) ∷ [])))
+              in_order_last (map (λ e. columns_of spec.group e.0) (take n es)) (columns_of spec.group row)
+              ∙ ap (in_order row_cmp) (sym (ap (map (λ e. columns_of spec.group e.0)) (take_more es n (row, w) found) ∙ map-append (λ e. columns_of spec.group e.0) (take n es) ((row, w) ∷ [])))
         ]
 
     pub one_placed : (key : List Value) → key ≡ group_of spec row → (old new : BTreeMap (List Value) (Vec ℕ)) → Placed n old → tree.keys new ≡ place row_cmp key (tree.keys old) → ((k : List Value) → places_of new k ≡ places_of old k ++ cond (is_eq (row_cmp k key)) (n ∷ []) []) → Placed (n + 1) new

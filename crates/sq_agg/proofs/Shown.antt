@@ -26,10 +26,10 @@ with_its_key c (n ∷ ns) =
 
 module _ (spec : AggSpec) (z : ZSet (List Value) row_cmp) where
   abbrev pub shown : List Value → List Value
-  shown c = group_row spec.calls.items c (rows_of_group spec z c)
+  shown c = group_row spec.calls c (rows_of_group spec z c)
 
   abbrev pub tested : List Value → List (List Value × ℤ)
-  tested c = map (λ n. (c, n)) (sums_of spec.calls.items (rows_of_group spec z c))
+  tested c = map (λ n. (c, n)) (sums_of spec.calls (rows_of_group spec z c))
 
   -- the groups before those that are left have their rows, and none of their SUMs lies outside
   pub record Shown (keys left rows : List (List Value)) : Type 0 where
@@ -39,13 +39,13 @@ module _ (spec : AggSpec) (z : ZSet (List Value) row_cmp) where
   module _ (keys left rows : List (List Value)) (so_far : Shown keys left rows) where
     module _ (key : List Value) (rest : List (List Value)) (next : left ≡ key ∷ rest) where
       -- what the SUMs of the next group say, or else those of the groups behind it
-      next_or_rest : first_keyed (flat_map tested keys) ≡ option_or (option_map (keyed key) (first_not_bigint (sums_of spec.calls.items (rows_of_group spec z key)))) (first_keyed (flat_map tested rest))
+      next_or_rest : first_keyed (flat_map tested keys) ≡ option_or (option_map (keyed key) (first_not_bigint (sums_of spec.calls (rows_of_group spec z key)))) (first_keyed (flat_map tested rest))
       next_or_rest =
           so_far.in_range ∙ ap (λ cs. first_keyed (flat_map tested cs)) next
           ∙ find-append (λ (s : List Value × ℤ). not (is_bigint s.1)) (tested key) (flat_map tested rest)
-          ∙ ap (λ o. option_or o (first_keyed (flat_map tested rest))) (with_its_key key (sums_of spec.calls.items (rows_of_group spec z key)))
+          ∙ ap (λ o. option_or o (first_keyed (flat_map tested rest))) (with_its_key key (sums_of spec.calls (rows_of_group spec z key)))
 
-      pub one_shown : (news : List (List Value)) (row : List Value) → news ≡ rows ++ row ∷ [] → row ≡ shown key → first_not_bigint (sums_of spec.calls.items (rows_of_group spec z key)) ≡ None → Shown keys rest news
+      pub one_shown : (news : List (List Value)) (row : List Value) → news ≡ rows ++ row ∷ [] → row ≡ shown key → first_not_bigint (sums_of spec.calls (rows_of_group spec z key)) ≡ None → Shown keys rest news
       one_shown news row made value inside = record {
         computed =
             ap (λ xs. xs ++ map shown rest) (made ∙ ap (λ x. rows ++ x ∷ []) value)
@@ -54,7 +54,7 @@ module _ (spec : AggSpec) (z : ZSet (List Value) row_cmp) where
       }
 
       -- a SUM outside is that of the first such group
-      pub one_outside : (c : List Value) (n : ℤ) → c ≡ key → first_not_bigint (sums_of spec.calls.items (rows_of_group spec z key)) ≡ Some n → first_keyed (flat_map tested keys) ≡ Some (c, n)
+      pub one_outside : (c : List Value) (n : ℤ) → c ≡ key → first_not_bigint (sums_of spec.calls (rows_of_group spec z key)) ≡ Some n → first_keyed (flat_map tested keys) ≡ Some (c, n)
       one_outside c n is out = next_or_rest ∙ ap (λ o. option_or (option_map (keyed key) o) (first_keyed (flat_map tested rest))) out ∙ ap (λ k. Some (k, n)) (sym is)
 
     module _ (done : left ≡ []) where

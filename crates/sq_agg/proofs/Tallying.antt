@@ -1,5 +1,5 @@
 -- The counts and sums of calls over few rows lie in their ranges.
-use Rattle.std.proofs.Common.{ℕ, ◌^◌, ◌<◌, ◌≤◌, List, [], ◌∷◌, map, unsigned_abs, lit≤, arith}
+use Rattle.std.proofs.Common.{◌≡◌, ℕ, ◌^◌, ◌<◌, ◌≤◌, ◌+ℤ◌, ℤ, true, false, if◌then◌else◌, List, [], ◌∷◌, map, unsigned_abs, Some, None, sym, ap, ap₂, ◌∙◌, lit≤, arith}
 use Rattle.std.specs.List.{AllByRecursion}
 use Rattle.sq_value.specs.declared.value.Value.{Value}
 use Rattle.sq_value.specs.Order.{row_cmp}
@@ -9,8 +9,9 @@ use Rattle.sq_expr.specs.declared.expr.Func.TheVariants.{CountAll, Count, Sum, M
 use Rattle.sq_ops.specs.declared.aggregate.Call.{Call}
 use Rattle.sq_ops.specs.Measures.{IsMeasurable}
 use Rattle.sq_ops.proofs.Measuring.{count_bound, numbers_bound, total_bound}
-use Rattle.sq_agg.specs.Accumulators.{call_count, call_sum, call_tally}
-use Rattle.sq_agg.specs.Tallies.{IsWithin}
+use Rattle.sq_agg.specs.declared.tally.Tally.{Tally}
+use Rattle.sq_agg.specs.Accumulators.{call_count, call_sum, call_tally, is_count_in_range, is_sum_in_range}
+use Rattle.sq_agg.specs.Tallies.{IsWithin, both, first_of_tally}
 
 module _ (z : ZSet (List Value) row_cmp) (measurable : IsMeasurable z) where
   count_within : (f : Func) (column : ℕ) → unsigned_abs (call_count f column z) ≤ 2 ^ 62
@@ -30,3 +31,8 @@ module _ (z : ZSet (List Value) row_cmp) (measurable : IsMeasurable z) where
   pub all_tallies_within : (calls : List Call) → AllByRecursion IsWithin (map (call_tally z) calls)
   all_tallies_within [] = tt
   all_tallies_within (call ∷ calls) = (record { count = count_within call.func call.arg; sum = sum_within call.func call.arg }, all_tallies_within calls)
+
+-- a sum outside its range is told, if its count is inside
+pub sum_told : (s t : Tally) (n : ℤ) → is_count_in_range (s.count +ℤ t.count) ≡ true → is_sum_in_range (s.sum +ℤ t.sum) ≡ false → n ≡ s.sum +ℤ t.sum → first_of_tally (both s t) ≡ Some n
+sum_told s t n inside out is =
+    ap₂ (λ a b. if a then (if b then None else Some (s.sum +ℤ t.sum)) else Some (s.count +ℤ t.count)) inside out ∙ ap Some (sym is)

@@ -1,3 +1,4 @@
+//! `Acc`: what is kept of a group for its aggregates, as an abelian group.
 ghost use Rattle.std.specs.Prelude.{◌≡◌, ◌≤◌, ◌^◌, None, IfOk};
 ghost use Rattle.sq_agg.specs.Accumulators.{accumulated, count_place, first_number_outside, sum_place};
 ghost use Rattle.sq_algebra.specs.ZSet.{entries, weight};
@@ -51,10 +52,10 @@ impl Acc {
     pub fn of_rows(alloc: Global, spec: &AggSpec, z: &ZSet) -> Result<Acc, NoMemory>
         requires fits { FitsRows (SuitsSpec spec.now) z.now }
         requires few { mass_of (entries z.now) ≤ 2 ^ 62 }
-        ensures ok { IfOk result (λ acc. acc ≡ accumulated spec.now.calls.items z.now) }
+        ensures ok { IfOk result (λ acc. acc ≡ accumulated spec.now.calls z.now) }
         ensures in_range { IfOk result (λ acc. first_number_outside acc ≡ None) }
     {
-        let tallies = tallies_of(alloc, &spec.calls, z)?;
+        let tallies = tallies_of(alloc, spec.calls.as_slice(), z)?;
         let rows = total_of(z);
         Ok(Acc { rows, tallies })
     }

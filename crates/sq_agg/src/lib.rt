@@ -2,13 +2,9 @@
 #![tactic(auto)]
 
 mod acc;
-#[cfg(test)]
-mod acc_tests;
 mod group;
 pub mod laws;
 mod tally;
-#[cfg(test)]
-mod tests;
 mod whole;
 
 pub use acc::Acc;

@@ -1,14 +1,16 @@
+//! The count and the sum of one call, and lists of them.
 ghost use Rattle.std.specs.Prelude.{◌≡◌, ◌&&◌, ◌<◌, ◌^◌, ℤ, map, pos, length, slice_get, unsigned_abs, IfOk, OnOk, OnErr, IfErr, true, false};
 ghost use Rattle.std.specs.List.{AllByRecursion, list_all};
 ghost use Rattle.std.specs.Ordering.{int_eq};
 ghost use Rattle.sq_agg.specs.Accumulators.{call_tally, is_sum_in_range};
 ghost use Rattle.sq_agg.specs.Tallies.{IsWithin, both, first_of_tally, first_of_tallies, is_no_tally, no_tally, summed, tally_or_none, turned};
 ghost use Rattle.sq_ops.specs.Measures.{IsMeasurable};
+ghost use Rattle.sq_zset.specs.declared.pair.OutsideRange.{OutsideRange as Outside};
 
 use sq_expr::Func;
 use sq_ops::{Call, count_of, sum_of, total_of};
 use sq_value::NoMemory;
-use sq_zset::{Group, ZFault, ZSet};
+use sq_zset::{OutsideRange, ZFault, ZSet, weight_from};
 use std::alloc::Global;
 
 /// How far from 0 a sum is always less.
@@ -23,14 +25,14 @@ pub struct Tally {
 
 impl Tally {
     // The count and the sum added up, or the first of them that lies outside its range.
-    fn plus(self, alloc: Global, other: Tally) -> Result<Tally, ZFault>
+    fn plus(self, other: Tally) -> Result<Tally, OutsideRange>
         requires self_within { IsWithin self }
         requires other_within { IsWithin other }
         ensures ok { IfOk result (λ tally. tally ≡ both self other) }
         ensures within { IfOk result IsWithin }
-        ensures outside { (number : ℤ) → result ≡ Err (ZFault.Weight number) → first_of_tally (both self other) ≡ Some number }
+        ensures outside { (outside : Outside) → result ≡ Err outside → first_of_tally (both self other) ≡ Some outside.sum }
     {
-        let count = Group::plus(&self.count, alloc, &other.count)?;
+        let count = weight_from(i128::from(self.count) + i128::from(other.count))?;
         let sum = sum_from(self.sum + other.sum)?;
         Ok(Tally { count, sum })
     }
@@ -56,14 +58,14 @@ impl Tally {
 }
 
 // The sum, or that it lies outside the range.
-fn sum_from(sum: i128) -> Result<i128, ZFault>
+fn sum_from(sum: i128) -> Result<i128, OutsideRange>
     ensures ok { IfOk result (λ same. same ≡ sum) }
     ensures in_range { OnOk result (unsigned_abs sum < 2 ^ 126) }
     ensures outside { OnErr result (is_sum_in_range sum ≡ false) }
-    ensures fault { IfErr result (λ fault. fault ≡ ZFault.Weight sum) }
+    ensures fault { IfErr result (λ outside. outside.sum ≡ sum) }
 {
     if sum <= -SUM_LIMIT || SUM_LIMIT <= sum {
-        return Err(ZFault::Weight { sum });
+        return Err(OutsideRange { sum });
     }
     Ok(sum)
 }
@@ -90,7 +92,7 @@ pub fn plus_tallies(alloc: Global, a: &[Tally], b: &[Tally]) -> Result<Vec<Tally
 {
     let mut list = Vec::new(alloc);
     for i in 0..longer(a, b) {
-        let sum = tally_at(a, i).plus(alloc, tally_at(b, i))?;
+        let sum = tally_at(a, i).plus(tally_at(b, i))?;
         list.push(sum)?;
     }
     Ok(list)
@@ -166,7 +168,7 @@ fn tally_of(call: &Call, z: &ZSet) -> Tally
             count: count_of(z, call.arg),
             sum: sum_of(z, call.arg),
         },
-        _ => Tally {
+        Func::Count | Func::Min | Func::Max => Tally {
             count: count_of(z, call.arg),
             sum: 0,
         },

@@ -1,3 +1,4 @@
+//! The aggregate of a whole Z-set.
 ghost use Rattle.std.specs.Prelude.{◌≡◌, ◌^◌, ◌<◌, ◌≤ℤ◌, ℤ, List, length, pos, Some, None, IfOk, OnOk};
 ghost use Rattle.sq_algebra.specs.Operators.{IsNonNegative};
 ghost use Rattle.sq_agg.specs.ByKey.{places_of};
@@ -12,7 +13,7 @@ ghost use Rattle.sq_value.specs.declared.value.Value.{Value as Datum};
 ghost use Rattle.sq_zset.specs.Range.{IsInRange};
 
 use crate::group::{group_places, rows_at};
-use sq_ops::{AggSpec, WholeFault, count_rows};
+use sq_ops::{AggSpec, WholeFault};
 use sq_value::Row;
 use sq_zset::ZSet;
 use std::alloc::Global;
@@ -35,7 +36,7 @@ pub fn agg_whole(alloc: Global, spec: &AggSpec, z: &ZSet) -> Result<ZSet, WholeF
 {
     let groups = group_places(alloc, spec, z)?;
     let rows = rows_shown(alloc, spec, z, &groups)?;
-    let answer = count_rows(alloc, rows)?;
+    let answer = ZSet::of_rows(alloc, rows)?;
     Ok(answer)
 }
 
@@ -77,9 +78,9 @@ fn row_of_key(
     requires bounded { total z.now ≤ℤ pos (2 ^ 61) }
     requires in_range { All (λ i. i < length (entries z.now)) places.now }
     requires rows { entries_at (entries z.now) places.now ≡ with_key (λ row. Some (group_of spec.now row)) key.now (entries z.now) }
-    ensures ok { IfOk result (λ row. row ≡ group_row spec.now.calls.items key.now (rows_of_group spec.now z.now key.now)) }
-    ensures all_sums { OnOk result (first_not_bigint (sums_of spec.now.calls.items (rows_of_group spec.now z.now key.now)) ≡ None) }
-    ensures outside { (group : List Datum) (sum : ℤ) → result ≡ Err (WholeFault.Sum group sum) → (group ≡ key.now) × (first_not_bigint (sums_of spec.now.calls.items (rows_of_group spec.now z.now key.now)) ≡ Some sum) }
+    ensures ok { IfOk result (λ row. row ≡ group_row spec.now.calls key.now (rows_of_group spec.now z.now key.now)) }
+    ensures all_sums { OnOk result (first_not_bigint (sums_of spec.now.calls (rows_of_group spec.now z.now key.now)) ≡ None) }
+    ensures outside { (group : List Datum) (sum : ℤ) → result ≡ Err (WholeFault.Sum group sum) → (group ≡ key.now) × (first_not_bigint (sums_of spec.now.calls (rows_of_group spec.now z.now key.now)) ≡ Some sum) }
 {
     let group = rows_at(alloc, spec, key, z, places)?;
     let row = spec.row_of_group(alloc, key, &group)?;

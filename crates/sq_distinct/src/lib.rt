@@ -1,8 +1,6 @@
 //! DISTINCT on Z-sets of rows (DBSP, PVLDB 16(7), 2023).
 #![tactic(auto)]
 
-#[cfg(test)]
-mod tests;
 mod whole;
 
 pub use whole::distinct_whole;

@@ -1,10 +1,10 @@
+//! DISTINCT of a whole Z-set.
 ghost use Rattle.std.specs.Prelude.{◌≡◌, ◌++◌, [], ◌∷◌, pos, int_lt, if◌then◌else◌, IfOk, OnOk};
 ghost use Rattle.std.specs.List.{filter};
 ghost use Rattle.sq_algebra.specs.Operators.{distinct};
 ghost use Rattle.sq_algebra.specs.ZSet.{entries, keys};
 ghost use Rattle.sq_zset.specs.Range.{IsInRange};
 
-use sq_ops::count_rows;
 use sq_value::{NoMemory, Row};
 use sq_zset::ZSet;
 use std::alloc::Global;
@@ -15,7 +15,7 @@ pub fn distinct_whole(alloc: Global, z: &ZSet) -> Result<ZSet, NoMemory>
     ensures in_range { IfOk result IsInRange }
 {
     let rows = rows_above_zero(alloc, z)?;
-    let answer = count_rows(alloc, rows)?;
+    let answer = ZSet::of_rows(alloc, rows)?;
     Ok(answer)
 }
 

@@ -1,3 +1,4 @@
+//! A linear operator on a Z-set: the images of all rows, consolidated.
 ghost use Rattle.std.specs.Prelude.{◌≡◌, ◌++◌, ◌*◌, ◌^◌, ◌≤◌, [], ℤ, Some, None, length, IfOk, OnOk};
 ghost use Rattle.std.specs.List.{flat_map};
 ghost use Rattle.sq_algebra.specs.Operators.{image, weighing};

@@ -1,3 +1,4 @@
+//! Why a linear operator refuses a Z-set.
 ghost use Rattle.std.specs.Prelude.{◌≡◌};
 ghost use Rattle.sq_linear.specs.Faults.{of_row, of_sum};
 

@@ -3,8 +3,6 @@
 
 mod apply;
 mod fault;
-#[cfg(test)]
-mod tests;
 
 pub use apply::apply_linear;
 pub use fault::LinearFault;

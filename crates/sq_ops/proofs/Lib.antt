@@ -5,7 +5,6 @@ pub mod Computing
 pub mod Fitting
 pub mod Joining
 pub mod Indexing
-pub mod Counting
 pub mod Measuring
 pub mod Folding
 pub mod Calling
@@ -13,4 +12,4 @@ pub mod Grouping
 pub mod Indexed
 pub mod Extremes
 pub mod ListTies
-pub mod Testing
+pub mod Parting

@@ -104,13 +104,13 @@ part_of_list calls c rows =
     ∙ ap (λ row. of_list row_cmp (cond (has_no_values rows && true) [] (row ∷ []))) (row_of_group_list calls c rows)
     ∙ ap (λ b. of_list row_cmp (cond b [] (row_of_list calls c rows ∷ []))) (elim (has_no_values rows) as (λ b. b && true ≡ b) [ true ↦ refl | false ↦ refl ]))
 
-pub groups_of_list : (spec : AggSpec) (rows : List (List Value)) → spec.global ≡ false → aggregated spec (of_list row_cmp rows) ≡ of_list row_cmp (groups_by row_cmp (group_of spec) (group_of_list spec.calls.items) rows)
+pub groups_of_list : (spec : AggSpec) (rows : List (List Value)) → spec.global ≡ false → aggregated spec (of_list row_cmp rows) ≡ of_list row_cmp (groups_by row_cmp (group_of spec) (group_of_list spec.calls) rows)
 groups_of_list spec rows e =
     grouped_by_key spec (of_list row_cmp rows) e
-    ∙ sym (of_list-groups_by row_cmp row_cmp-total row_cmp-antisymmetric row_cmp row_cmp-total row_cmp-antisymmetric (group_of spec) row_cmp row_cmp-total row_cmp-antisymmetric (group_of_list spec.calls.items) (part_of false spec.calls.items) (part_of_list spec.calls.items) (λ c. refl) rows)
+    ∙ sym (of_list-groups_by row_cmp row_cmp-total row_cmp-antisymmetric row_cmp row_cmp-total row_cmp-antisymmetric (group_of spec) row_cmp row_cmp-total row_cmp-antisymmetric (group_of_list spec.calls) (part_of false spec.calls) (part_of_list spec.calls) (λ c. refl) rows)
 
-pub all_of_list : (spec : AggSpec) (rows : List (List Value)) → spec.global ≡ true → aggregated spec (of_list row_cmp rows) ≡ of_list row_cmp (row_of_list spec.calls.items [] rows ∷ [])
-all_of_list spec rows e = one_of_all spec (of_list row_cmp rows) e ∙ ap (λ row. of_list row_cmp (row ∷ [])) (row_of_group_list spec.calls.items [] rows)
+pub all_of_list : (spec : AggSpec) (rows : List (List Value)) → spec.global ≡ true → aggregated spec (of_list row_cmp rows) ≡ of_list row_cmp (row_of_list spec.calls [] rows ∷ [])
+all_of_list spec rows e = one_of_all spec (of_list row_cmp rows) e ∙ ap (λ row. of_list row_cmp (row ∷ [])) (row_of_group_list spec.calls [] rows)
 
 -- ---- groups in any order
 none_or_all : (P : List Value → Type 0) (k : List Value) (rows : List (List Value)) → AllByRecursion P rows → (◌≡◌ {A = ℤ} (pos (count row_cmp k rows)) (pos 0)) ⊎ P k
@@ -137,10 +137,10 @@ module _ (key : List Value → List Value) (cs rows : List (List Value)) (each :
 pub groups_in_any_order : (spec : AggSpec) (cs rows : List (List Value)) → spec.global ≡ false → All (λ row. count row_cmp (group_of spec row) cs ≡ 1) rows → aggregated spec (of_list row_cmp rows) ≡ of_list row_cmp (rows_by_keys spec cs rows)
 groups_in_any_order spec cs rows e each =
     grouped_by_key spec (of_list row_cmp rows) e
-    ∙ by_key_over (group_of spec) (z_sets row_cmp) rows_are_abelian (part_of false spec.calls.items) (λ c. part_is_nothing_for_none false spec.calls.items c refl) cs (of_list row_cmp rows) (covers_list (group_of spec) cs rows each)
-    ∙ sym (of_list-flat_map row_cmp row_cmp-total row_cmp-antisymmetric (λ c. group_of_list spec.calls.items c (members_at row_cmp (group_of spec) c rows)) cs
-    ∙ sum_over_agree (z_sets row_cmp) (λ c. of_list row_cmp (group_of_list spec.calls.items c (members_at row_cmp (group_of spec) c rows))) (λ c. part_of false spec.calls.items c (at_key row_cmp (group_of spec) c (of_list row_cmp rows)))
-    (λ c. part_of_list spec.calls.items c (members_at row_cmp (group_of spec) c rows) ∙ ap (part_of false spec.calls.items c) (sym (at_key-of_list row_cmp row_cmp-total row_cmp-antisymmetric row_cmp row_cmp-total row_cmp-antisymmetric (group_of spec) c rows))) cs)
+    ∙ by_key_over (group_of spec) (z_sets row_cmp) rows_are_abelian (part_of false spec.calls) (λ c. part_is_nothing_for_none false spec.calls c refl) cs (of_list row_cmp rows) (covers_list (group_of spec) cs rows each)
+    ∙ sym (of_list-flat_map row_cmp row_cmp-total row_cmp-antisymmetric (λ c. group_of_list spec.calls c (members_at row_cmp (group_of spec) c rows)) cs
+    ∙ sum_over_agree (z_sets row_cmp) (λ c. of_list row_cmp (group_of_list spec.calls c (members_at row_cmp (group_of spec) c rows))) (λ c. part_of false spec.calls c (at_key row_cmp (group_of spec) c (of_list row_cmp rows)))
+    (λ c. part_of_list spec.calls c (members_at row_cmp (group_of spec) c rows) ∙ ap (part_of false spec.calls c) (sym (at_key-of_list row_cmp row_cmp-total row_cmp-antisymmetric row_cmp row_cmp-total row_cmp-antisymmetric (group_of spec) c rows))) cs)
 
 -- ---- joins as pairs that pass a test
 one_pair : (k l : Option (List Value)) (t : Bool) (row : List Value) → where_same row_cmp k l (cond t (Some row) None) ≡ cond (is_same_key k l && t) (row ∷ []) []
@@ -163,8 +163,8 @@ module _ (p : List Value × List Value → Bool) (g : List Value × List Value �
       ∙ sym (ap (map g) (filter-append p (map (λ other. (row, other)) others) (all_pairs rows others))
       ∙ map-append g (filter p (map (λ other. (row, other)) others)) (filter p (all_pairs rows others)))
 
-pub pairs_that_match : (op : Pairing) (rows others : List (List Value)) → joined (key_in op.left.items op.nulls_match) (key_in op.right.items op.nulls_match) (chosen op.keep op.items.items) (of_list row_cmp rows) (of_list row_cmp others) ≡ of_list row_cmp (map (row_of_pair op) (filter (is_joined op) (all_pairs rows others)))
+pub pairs_that_match : (op : Pairing) (rows others : List (List Value)) → joined (key_in op.left op.nulls_match) (key_in op.right op.nulls_match) (chosen op.keep op.items) (of_list row_cmp rows) (of_list row_cmp others) ≡ of_list row_cmp (map (row_of_pair op) (filter (is_joined op) (all_pairs rows others)))
 pairs_that_match op rows others =
-    nested_loops (key_in op.left.items op.nulls_match) (key_in op.right.items op.nulls_match) (chosen op.keep op.items.items) rows others
-    ∙ ap (of_list row_cmp) (tested_rows (is_joined op) (row_of_pair op) (pairs_where row_cmp (key_in op.left.items op.nulls_match) (key_in op.right.items op.nulls_match) (chosen op.keep op.items.items))
-    (λ row other. one_pair (key_in op.left.items op.nulls_match row) (key_in op.right.items op.nulls_match other) (holds op.keep (row ++ other)) (columns_of op.items.items (row ++ other))) rows others)
+    nested_loops (key_in op.left op.nulls_match) (key_in op.right op.nulls_match) (chosen op.keep op.items) rows others
+    ∙ ap (of_list row_cmp) (tested_rows (is_joined op) (row_of_pair op) (pairs_where row_cmp (key_in op.left op.nulls_match) (key_in op.right op.nulls_match) (chosen op.keep op.items))
+    (λ row other. one_pair (key_in op.left op.nulls_match row) (key_in op.right op.nulls_match other) (holds op.keep (row ++ other)) (columns_of op.items (row ++ other))) rows others)

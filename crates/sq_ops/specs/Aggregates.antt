@@ -78,7 +78,7 @@ part_of stands calls c z = of_list row_cmp (if has_no_values (entries z) && not 
 
 -- the columns by which rows are grouped: none in a global aggregate
 abbrev pub group_columns : AggSpec → List ℕ
-group_columns spec = if spec.global then [] else spec.group.items
+group_columns spec = if spec.global then [] else spec.group
 
 -- the key of a row
 abbrev pub group_of : AggSpec → List Value → List Value
@@ -93,7 +93,7 @@ abbrev pub rows_of_group : AggSpec → ZSet (List Value) row_cmp → List Value 
 rows_of_group spec z c = at_key row_cmp (group_of spec) c z
 
 abbrev pub shown_rows : AggSpec → ZSet (List Value) row_cmp → List (List Value)
-shown_rows spec z = map (λ c. group_row spec.calls.items c (rows_of_group spec z c)) (groups_of spec z)
+shown_rows spec z = map (λ c. group_row spec.calls c (rows_of_group spec z c)) (groups_of spec z)
 
 abbrev pub aggregated : AggSpec → ZSet (List Value) row_cmp → ZSet (List Value) row_cmp
 aggregated spec z = of_list row_cmp (shown_rows spec z)
@@ -112,7 +112,7 @@ sums_of calls z = flat_map (λ call. tested_sum call.func call.arg z) calls
 
 -- each SUM of each group, with the key of the group
 abbrev pub keyed_sums : AggSpec → ZSet (List Value) row_cmp → List (List Value × ℤ)
-keyed_sums spec z = flat_map (λ c. map (λ n. (c, n)) (sums_of spec.calls.items (rows_of_group spec z c))) (groups_of spec z)
+keyed_sums spec z = flat_map (λ c. map (λ n. (c, n)) (sums_of spec.calls (rows_of_group spec z c))) (groups_of spec z)
 
 abbrev pub first_sum_outside : AggSpec → ZSet (List Value) row_cmp → Option (List Value × ℤ)
 first_sum_outside spec z = find (λ s. not (is_bigint s.1)) (keyed_sums spec z)
@@ -136,7 +136,7 @@ call_suits Max column kinds = nat_lt column (length kinds)
 
 -- whether a global aggregate has no group columns, the group columns stand there, and each call suits
 abbrev pub spec_suits : AggSpec → List Kind → Bool
-spec_suits spec kinds = (not spec.global || has_no_values spec.group.items) && (list_all (λ c. nat_lt c (length kinds)) spec.group.items && list_all (λ call. call_suits call.func call.arg kinds) spec.calls.items)
+spec_suits spec kinds = (not spec.global || has_no_values spec.group) && (list_all (λ c. nat_lt c (length kinds)) spec.group && list_all (λ call. call_suits call.func call.arg kinds) spec.calls)
 
 abbrev pub SuitsSpec : AggSpec → List Kind → Type 0
 SuitsSpec spec kinds = IsTrue (spec_suits spec kinds)

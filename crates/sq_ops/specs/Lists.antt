@@ -52,7 +52,7 @@ abbrev pub group_of_list : List Call → List Value → List (List Value) → Li
 group_of_list calls c rows = if has_no_values rows then [] else row_of_list calls c rows ∷ []
 
 abbrev pub rows_by_keys : AggSpec → List (List Value) → List (List Value) → List (List Value)
-rows_by_keys spec cs rows = flat_map (λ c. group_of_list spec.calls.items c (members_at row_cmp (group_of spec) c rows)) cs
+rows_by_keys spec cs rows = flat_map (λ c. group_of_list spec.calls c (members_at row_cmp (group_of spec) c rows)) cs
 
 -- ---- joins
 
@@ -66,7 +66,7 @@ is_same_key (Some c) None = false
 is_same_key (Some c) (Some d) = is_eq (row_cmp c d)
 
 abbrev pub is_joined : Pairing → List Value × List Value → Bool
-is_joined op pair = is_same_key (key_in op.left.items op.nulls_match pair.0) (key_in op.right.items op.nulls_match pair.1) && holds op.keep (pair.0 ++ pair.1)
+is_joined op pair = is_same_key (key_in op.left op.nulls_match pair.0) (key_in op.right op.nulls_match pair.1) && holds op.keep (pair.0 ++ pair.1)
 
 abbrev pub row_of_pair : Pairing → List Value × List Value → List Value
-row_of_pair op pair = columns_of op.items.items (pair.0 ++ pair.1)
+row_of_pair op pair = columns_of op.items (pair.0 ++ pair.1)

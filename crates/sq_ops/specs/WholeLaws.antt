@@ -101,23 +101,23 @@ module _ (calls : List Call) (z : ZSet (List Value) row_cmp) where
       ∙ plus-minus_back (z_sets row_cmp) rows_are_abelian (part_of true calls [] (zero row_cmp)) (part_of true calls [] z)
       ∙ shown_without_values z)
 
-pub aggregates_add_up : (spec : AggSpec) (z : ZSet (List Value) row_cmp) → aggregated spec z ≡ sum_of_parts (part_of spec.global spec.calls.items) spec.global (group_of spec) z
+pub aggregates_add_up : (spec : AggSpec) (z : ZSet (List Value) row_cmp) → aggregated spec z ≡ sum_of_parts (part_of spec.global spec.calls) spec.global (group_of spec) z
 aggregates_add_up spec z =
-    elim (spec.global) as (λ b. of_list row_cmp (map (λ c. group_row spec.calls.items c (at_key row_cmp (columns_of (if b then [] else spec.group.items)) c z)) (if b then [] ∷ [] else keys_of row_cmp (columns_of (if b then [] else spec.group.items)) z))
-    ≡ sum_of_parts (part_of b spec.calls.items) b (columns_of (if b then [] else spec.group.items)) z) [
-      | true ↦ one_group spec.calls.items z
+    elim (spec.global) as (λ b. of_list row_cmp (map (λ c. group_row spec.calls c (at_key row_cmp (columns_of (if b then [] else spec.group)) c z)) (if b then [] ∷ [] else keys_of row_cmp (columns_of (if b then [] else spec.group)) z))
+    ≡ sum_of_parts (part_of b spec.calls) b (columns_of (if b then [] else spec.group)) z) [
+      | true ↦ one_group spec.calls z
       | false ↦
-          grouped (columns_of spec.group.items) spec.calls.items z
-          ∙ sum_of_all_parts (columns_of spec.group.items) (part_of false spec.calls.items) (λ c. part_is_nothing_for_none false spec.calls.items c refl) z
+          grouped (columns_of spec.group) spec.calls z
+          ∙ sum_of_all_parts (columns_of spec.group) (part_of false spec.calls) (λ c. part_is_nothing_for_none false spec.calls c refl) z
     ]
 
 -- ---- the rows of all groups
-pub grouped_by_key : (spec : AggSpec) (z : ZSet (List Value) row_cmp) → spec.global ≡ false → aggregated spec z ≡ by_key row_cmp (group_of spec) (z_sets row_cmp) (part_of false spec.calls.items) z
+pub grouped_by_key : (spec : AggSpec) (z : ZSet (List Value) row_cmp) → spec.global ≡ false → aggregated spec z ≡ by_key row_cmp (group_of spec) (z_sets row_cmp) (part_of false spec.calls) z
 grouped_by_key spec z e =
-    ap (λ b. of_list row_cmp (map (λ c. group_row spec.calls.items c (rows_of_group spec z c)) (if b then [] ∷ [] else keys_of row_cmp (group_of spec) z))) e
-    ∙ grouped (group_of spec) spec.calls.items z
+    ap (λ b. of_list row_cmp (map (λ c. group_row spec.calls c (rows_of_group spec z c)) (if b then [] ∷ [] else keys_of row_cmp (group_of spec) z))) e
+    ∙ grouped (group_of spec) spec.calls z
 
-pub one_of_all : (spec : AggSpec) (z : ZSet (List Value) row_cmp) → spec.global ≡ true → aggregated spec z ≡ of_list row_cmp (group_row spec.calls.items [] z ∷ [])
+pub one_of_all : (spec : AggSpec) (z : ZSet (List Value) row_cmp) → spec.global ≡ true → aggregated spec z ≡ of_list row_cmp (group_row spec.calls [] z ∷ [])
 one_of_all spec z e =
-    ap (λ b. of_list row_cmp (map (λ c. group_row spec.calls.items c (at_key row_cmp (columns_of (if b then [] else spec.group.items)) c z)) (if b then [] ∷ [] else keys_of row_cmp (columns_of (if b then [] else spec.group.items)) z))) e
-    ∙ ap (λ y. of_list row_cmp (group_row spec.calls.items [] y ∷ [])) (all_rows spec.calls.items z)
+    ap (λ b. of_list row_cmp (map (λ c. group_row spec.calls c (at_key row_cmp (columns_of (if b then [] else spec.group)) c z)) (if b then [] ∷ [] else keys_of row_cmp (columns_of (if b then [] else spec.group)) z))) e
+    ∙ ap (λ y. of_list row_cmp (group_row spec.calls [] y ∷ [])) (all_rows spec.calls z)

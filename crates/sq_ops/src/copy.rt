@@ -1,3 +1,4 @@
+//! Copies of the values of a row.
 ghost use Rattle.std.specs.Prelude.{◌≡◌, IfOk};
 
 use sq_value::{NoMemory, Row, Value};

@@ -1,3 +1,4 @@
+//! The least and the greatest value in a column.
 ghost use Rattle.std.specs.Prelude.{◌≡◌, fold, IfOk};
 ghost use Rattle.sq_expr.specs.Meaning.{column_of, is_null};
 ghost use Rattle.sq_ops.specs.Aggregates.{greater, lesser, values_in};

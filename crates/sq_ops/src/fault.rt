@@ -1,8 +1,9 @@
+//! Why an operator refuses a row.
 ghost use Rattle.std.specs.Prelude.{◌≡◌};
-ghost use Rattle.sq_ops.specs.declared.fault.OpFault.TheVariants.{Memory};
+ghost use Rattle.sq_ops.specs.declared.fault.OpFault.TheVariants.{Memory, Value};
 ghost use Rattle.sq_ops.specs.Faults.{fault_of};
 
-use sq_expr::ItemFault;
+use sq_expr::{ItemFault, OutOfRange};
 use sq_value::NoMemory;
 use std::alloc::{AllocError, AllocFailed};
 
@@ -22,6 +23,16 @@ impl From<ItemFault> for OpFault {
         match item {
             ItemFault::Value { value } => OpFault::Value { value },
             ItemFault::Memory => OpFault::Memory,
+        }
+    }
+}
+
+impl From<OutOfRange> for OpFault {
+    ghost from_gives = { λ outside fault. fault ≡ Value outside.value };
+
+    fn from(outside: OutOfRange) -> OpFault {
+        OpFault::Value {
+            value: outside.value,
         }
     }
 }

@@ -7,23 +7,19 @@ mod aggregate;
 mod bilinear;
 mod columns;
 mod copy;
-mod count;
 mod extreme;
 mod fault;
 mod index;
+mod items;
 pub mod laws;
 mod linear;
 pub mod list_laws;
 mod measure;
-#[cfg(test)]
-mod tests;
 mod whole;
-#[cfg(test)]
-mod whole_tests;
+pub mod whole_laws;
 
 pub use aggregate::{AggSpec, Call};
 pub use bilinear::{Bilinear, Pairing};
-pub use count::count_rows;
 pub use fault::OpFault;
 pub use index::Index;
 pub use linear::{Keep, Linear, Pad, Project};

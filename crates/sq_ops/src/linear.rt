@@ -1,4 +1,5 @@
-ghost use Rattle.std.specs.Prelude.{◌≡◌, ◌++◌, ℤ, List, Some, None, IfOk, OnOk, OnErr};
+//! The trait `Linear` of operators that give images of rows, and its types `Keep`, `Project` and `Pad`.
+ghost use Rattle.std.specs.Prelude.{◌≡◌, ◌↔◌, ◌++◌, IsTrue, ℤ, List, Some, None, IfOk, OnOk, OnErr};
 ghost use Rattle.std.specs.List.{AllByRecursion};
 ghost use Rattle.sq_expr.specs.Fits.{Fits};
 ghost use Rattle.sq_ops.specs.Bigint.{first_not_bigint};
@@ -7,6 +8,7 @@ ghost use Rattle.sq_ops.specs.Rows.{items_of, numbers_of, padded};
 
 use crate::OpFault;
 use crate::copy::copy_values;
+use crate::items::{clone_items, same_items};
 use sq_expr::{Cond, Expr, item, test};
 use sq_value::{NoMemory, Row, Tri, Value};
 use sqlite_items::Items;
@@ -52,6 +54,16 @@ pub struct Keep {
     pub cond: Cond,
 }
 
+impl Keep {
+    /// An operator of its own that is the same, or `NoMemory` when memory runs out.
+    pub fn clone_keep(&self, alloc: Global) -> Result<Keep, NoMemory>
+        ensures equal { IfOk result (λ copy. copy ≡ self.now) }
+    {
+        let cond = self.cond.clone_cond(alloc)?;
+        Ok(Keep { cond })
+    }
+}
+
 impl Linear for Keep {
     ghost use Rattle.std.specs.Prelude.{[]};
     ghost use Rattle.sq_expr.specs.Fits.{SuitsCond};
@@ -78,6 +90,23 @@ impl Linear for Keep {
 #[derive(Debug, Drop)]
 pub struct Project {
     pub items: Items<Expr>,
+}
+
+impl Project {
+    /// An operator of its own that is the same, or `NoMemory` when memory runs out.
+    pub fn clone_project(&self, alloc: Global) -> Result<Project, NoMemory>
+        ensures equal { IfOk result (λ copy. copy ≡ self.now) }
+    {
+        let items = clone_items(alloc, &self.items)?;
+        Ok(Project { items })
+    }
+
+    /// Whether another operator is the same. Takes no memory.
+    pub fn is_same(&self, other: &Project) -> bool
+        ensures { IsTrue result ↔ (self.now ≡ other.now) }
+    {
+        same_items(self.items.as_slice(), other.items.as_slice())
+    }
 }
 
 impl Linear for Project {
@@ -122,6 +151,15 @@ fn projected_row(alloc: Global, items: &[Expr], row: &Row) -> Result<Row, OpFaul
 pub struct Pad {
     /// How many NULLs.
     pub nulls: u32,
+}
+
+impl Pad {
+    /// Whether another operator is the same. Takes no memory.
+    pub fn is_same(&self, other: &Pad) -> bool
+        ensures { IsTrue result ↔ (self.now ≡ other.now) }
+    {
+        self.nulls == other.nulls
+    }
 }
 
 impl Linear for Pad {

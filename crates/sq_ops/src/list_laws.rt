@@ -17,7 +17,7 @@ ghost use Rattle.sq_value.specs.declared.value.Value.{Value as Datum};
 ghost use Rattle.sq_value.specs.Order.{row_cmp};
 ghost use Rattle.sq_algebra.specs.Groups.{z_sets};
 
-use crate::{AggSpec, Bilinear, Distinct, Index, Pairing, Whole, WholeFault};
+use crate::{AggSpec, Bilinear, Call, Distinct, Index, Pairing, Whole, WholeFault};
 
 /// A join of the Z-sets of two lists is the Z-set of what nested loops over the lists give, and it is additive in each
 /// place.
@@ -53,8 +53,8 @@ pub fn pairings_are_filters_of_pairs()
 /// global one has one row. The value of a call over the Z-set of a list of rows is that over the list, in which each row
 /// stands as often as it counts.
 pub fn aggregates_of_lists()
-    ensures groups { (spec : Aggregating) (rows : List (List Datum)) → spec.global ≡ false → ⟦<AggSpec as Whole>⟧.answers spec (of_list row_cmp rows) ≡ of_list row_cmp (groups_by row_cmp (group_of spec) (group_of_list spec.calls.items) rows) }
-    ensures global { (spec : Aggregating) (rows : List (List Datum)) → spec.global ≡ true → ⟦<AggSpec as Whole>⟧.answers spec (of_list row_cmp rows) ≡ of_list row_cmp (row_of_list spec.calls.items [] rows ∷ []) }
+    ensures groups { (spec : Aggregating) (rows : List (List Datum)) → spec.global ≡ false → ⟦<AggSpec as Whole>⟧.answers spec (of_list row_cmp rows) ≡ of_list row_cmp (groups_by row_cmp (group_of spec) (group_of_list spec.calls) rows) }
+    ensures global { (spec : Aggregating) (rows : List (List Datum)) → spec.global ≡ true → ⟦<AggSpec as Whole>⟧.answers spec (of_list row_cmp rows) ≡ of_list row_cmp (row_of_list spec.calls [] rows ∷ []) }
     ensures values { (f : Function) (column : ℕ) (rows : List (List Datum)) → call_value f column (of_list row_cmp rows) ≡ list_value f column rows }
 {}
 
@@ -65,6 +65,7 @@ fn data_crosses_threads() {
     is_send_and_sync::<Pairing>();
     is_send_and_sync::<Distinct>();
     is_send_and_sync::<AggSpec>();
+    is_send_and_sync::<Call>();
     is_send_and_sync::<WholeFault>();
     is_send_and_sync::<Index>();
 }

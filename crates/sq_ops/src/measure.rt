@@ -1,3 +1,4 @@
+//! Totals, counts and sums over the rows of a Z-set, each row as often as its weight says.
 ghost use Rattle.std.specs.Prelude.{◌≡◌, ◌≤◌, ◌^◌, ◌*ℤ◌, unsigned_abs};
 ghost use Rattle.sq_algebra.specs.Groups.{integers};
 ghost use Rattle.sq_algebra.specs.Operators.{lin};

@@ -1,4 +1,5 @@
-ghost use Rattle.std.specs.Prelude.{◌≡◌, ◌^◌, ◌≤ℤ◌, ℤ, List, pos, IfOk, OnOk, Some, None};
+//! The trait `Whole` of operators that work key by key, and `Distinct`.
+ghost use Rattle.std.specs.Prelude.{◌≡◌, ◌↔◌, ◌^◌, IsTrue, ◌≤ℤ◌, ℤ, List, pos, IfOk, OnOk, Some, None};
 ghost use Rattle.std.specs.List.{All};
 ghost use Rattle.sq_algebra.specs.Operators.{IsNonNegative, distinct};
 ghost use Rattle.sq_algebra.specs.ZSet.{entries, total};
@@ -8,7 +9,6 @@ ghost use Rattle.sq_value.specs.declared.value.Value.{Value as Datum};
 ghost use Rattle.sq_zset.specs.Range.{IsInRange};
 ghost use Rattle.sq_ops.specs.declared.whole.WholeFault.TheVariants.{Memory};
 
-use crate::count::one_row;
 use sq_value::{NoMemory, Row};
 use sq_zset::ZSet;
 use std::alloc::{AllocError, AllocFailed, Global};
@@ -110,6 +110,15 @@ pub trait Whole {
 #[derive(Clone, Copy, Debug, PartialEq, Eq)]
 pub struct Distinct;
 
+impl Distinct {
+    /// Whether another operator is the same, as each is. Takes no memory.
+    pub fn is_same(&self, other: &Distinct) -> bool
+        ensures { IsTrue result ↔ (self.now ≡ other.now) }
+    {
+        *self == *other
+    }
+}
+
 impl Whole for Distinct {
     ghost use Rattle.std.specs.Prelude.{[], false, ⊤, pos, int_lt, if◌then◌else◌};
     ghost use Rattle.sq_algebra.specs.Operators.{distinct};
@@ -141,7 +150,7 @@ impl Whole for Distinct {
         if z.weight_of(key) <= 0 {
             return Ok(ZSet::empty(alloc));
         }
-        Ok(one_row(alloc, key.clone_row(alloc)?)?)
+        Ok(ZSet::of_row(alloc, key.clone_row(alloc)?)?)
     }
 
     ghost adds_up = { λ _ z. distinct_adds_up z };

@@ -1,3 +1,4 @@
+//! The operator on streams that answers each Z-set one step later.
 ghost use Rattle.std.specs.Prelude.{◌≡◌, IfOk, OnErr};
 ghost use Rattle.sq_value.specs.Order.{row_cmp};
 ghost use Rattle.sq_algebra.specs.ZSet.{zero};

@@ -1,3 +1,4 @@
+//! The operator on streams that answers the difference to the Z-set before.
 ghost use Rattle.std.specs.Prelude.{◌≡◌, ℤ, Some, IfOk, OnErr};
 ghost use Rattle.sq_value.specs.Order.{row_cmp};
 ghost use Rattle.sq_algebra.specs.ZSet.{zero, minus};

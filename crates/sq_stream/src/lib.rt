@@ -7,8 +7,6 @@ mod delay;
 mod differentiator;
 mod integrator;
 pub mod laws;
-#[cfg(test)]
-mod tests;
 
 pub use delay::Delay;
 pub use differentiator::Differentiator;

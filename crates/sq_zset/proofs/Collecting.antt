@@ -128,7 +128,7 @@ mass_of-in_front row w es =
     let whole = sum_by-cons (λ (p : List Value × ℤ). unsigned_abs p.1) (row, w) es in
     elim (int_eq w (pos 0)) as (λ b. mass_of (cond b es ((row, w) ∷ es)) ≤ unsigned_abs w + mass_of es) [ true ↦ omega arith | false ↦ omega (arith, whole) ]
 
-mass_of-add : (row : List Value) (w : ℤ) (es : List (List Value × ℤ)) → mass_of (add row_cmp row w es) ≤ unsigned_abs w + mass_of es
+pub mass_of-add : (row : List Value) (w : ℤ) (es : List (List Value × ℤ)) → mass_of (add row_cmp row w es) ≤ unsigned_abs w + mass_of es
 mass_of-add row w [] = mass_of-in_front row w []
 mass_of-add row w (e ∷ es) =
     let whole = sum_by-cons (λ (p : List Value × ℤ). unsigned_abs p.1) e es in

@@ -5,3 +5,5 @@ pub mod Collecting
 pub mod Rows
 pub mod RowOperators
 pub mod RowKeys
+pub mod Counting
+pub mod Masses

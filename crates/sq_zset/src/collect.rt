@@ -1,5 +1,7 @@
-ghost use Rattle.std.specs.Prelude.{◌≡◌, ◌+◌, ◌^◌, ◌≤◌, ℤ, reverse, unsigned_abs, IfOk, OnOk, Some, None};
+//! Pairs into the entries of a Z-set: sorted, the weights of equal rows added up, and each sum tested against the range.
+ghost use Rattle.std.specs.Prelude.{◌≡◌, ◌+◌, ◌^◌, ◌≤◌, ℤ, pos, reverse, unsigned_abs, IfOk, OnOk, Some, None};
 ghost use Rattle.sq_value.specs.Order.{row_cmp};
+ghost use Rattle.sq_algebra.specs.Operators.{weighing};
 ghost use Rattle.sq_algebra.specs.ZSet.{add, collect};
 ghost use Rattle.sq_zset.specs.Collecting.{IsLowest, mass_of, first_weight, without_first};
 ghost use Rattle.sq_zset.specs.Pairs.{mass, weighted_rows};
@@ -62,4 +64,15 @@ pub fn weights_of(alloc: Global, mut sums: Vec<(Row, i128)>) -> Result<Vec<(Row,
         list.push((row, weight))?;
     }
     Ok(list)
+}
+
+/// Each row with the weight 1.
+pub fn single_pairs(alloc: Global, rows: Vec<Row>) -> Result<Vec<Pair>, NoMemory>
+    ensures { IfOk result (λ pairs. weighted_rows pairs.items ≡ weighing (pos 1) rows.items) }
+{
+    let mut pairs = Vec::with_capacity(alloc, rows.len())?;
+    for row in rows {
+        pairs.push(Pair { row, weight: 1 })?;
+    }
+    Ok(pairs)
 }

@@ -1,3 +1,4 @@
+//! The trait `Group`, an abelian group whose numbers have ranges, and the whole numbers as one.
 ghost use Rattle.std.specs.Prelude.{◌≡◌, ◌↔◌, ℤ, Option, Some, None, IsTrue, IfOk};
 ghost use Rattle.sq_algebra.specs.Groups.{AbelianGroup, IsAbelian};
 
@@ -77,7 +78,7 @@ impl Group for i64 {
         ensures fault { IfErr result (λ fault. fault ≡ ZFault.Weight (self.now +ℤ other.now)) }
         ensures outside { OnErr result (number_outside (self.now +ℤ other.now) ≡ Some (self.now +ℤ other.now)) }
     {
-        weight_from(i128::from(*self) + i128::from(*other))
+        Ok(weight_from(i128::from(*self) + i128::from(*other))?)
     }
 
     fn negate(&self, _: Global) -> Result<i64, NoMemory>

@@ -1,5 +1,5 @@
 //! Laws of Z-sets of rows, each as the contract of a function that does nothing.
-ghost use Rattle.std.specs.Prelude.{◌≡◌, List, ◌++◌, length, Bool, pos, neg_ℤ, ◌+ℤ◌, ◌-ℤ◌, map, if◌then◌else◌};
+ghost use Rattle.std.specs.Prelude.{◌≡◌, ◌≤◌, ◌+◌, List, ◌++◌, length, Bool, pos, neg_ℤ, ◌+ℤ◌, ◌-ℤ◌, map, if◌then◌else◌};
 ghost use Rattle.std.specs.List.{filter, flat_map};
 ghost use Rattle.std.specs.Ordering.{is_eq};
 ghost use Rattle.sq_value.specs.declared.value.Value.{Value as Datum};
@@ -7,10 +7,11 @@ ghost use Rattle.sq_value.specs.Order.{row_cmp};
 ghost use Rattle.sq_algebra.specs.Groups.{IsAbelian, IsAdditive, z_sets};
 ghost use Rattle.sq_algebra.specs.Keyed.{at_key};
 ghost use Rattle.sq_algebra.specs.Listed.{count, changed, first_of_each, among, without};
-ghost use Rattle.sq_algebra.specs.Operators.{image, keep, distinct, product, meet};
+ghost use Rattle.sq_algebra.specs.Operators.{IsNonNegative, image, keep, distinct, product, meet};
 ghost use Rattle.sq_algebra.specs.ZSet.{ZSet as Weighted, entries, zero, single, of_list, weight, total, plus, negate, minus};
+ghost use Rattle.sq_zset.specs.Collecting.{mass_of};
 
-use crate::{Group, Pair, ZFault, ZSet};
+use crate::{Group, OutsideRange, Pair, ZFault, ZSet};
 use sq_algebra::changes_are_differences;
 use sq_value::Row;
 
@@ -46,6 +47,17 @@ pub fn rows_have_totals()
     ensures list { (rows : List (List Datum)) → total (of_list row_cmp rows) ≡ pos (length rows) }
 {}
 
+/// The mass of a Z-set is the sum of its absolute weights. If no weight is negative, it is the total. That of a sum or a
+/// difference is at most the sum of both, and that of a negation, or of the rows that pass a test, at most the whole:
+/// `|y + z| ≤ |y| + |z|`.
+pub fn masses_of_rows()
+    ensures total { (z : Weighted (List Datum) row_cmp) → IsNonNegative z → pos (mass_of (entries z)) ≡ total z }
+    ensures sum { (y z : Weighted (List Datum) row_cmp) → mass_of (entries (plus y z)) ≤ mass_of (entries y) + mass_of (entries z) }
+    ensures difference { (y z : Weighted (List Datum) row_cmp) → mass_of (entries (minus y z)) ≤ mass_of (entries y) + mass_of (entries z) }
+    ensures negation { (z : Weighted (List Datum) row_cmp) → mass_of (entries (negate z)) ≤ mass_of (entries z) }
+    ensures part { (p : List Datum → Bool) (z : Weighted (List Datum) row_cmp) → mass_of (entries (keep p z)) ≤ mass_of (entries z) }
+{}
+
 /// Images of rows, the rows that pass a test, the rows with a key, and products, in each of their sides, are additive.
 pub fn operators_on_rows_are_additive()
     ensures image { (f : List Datum → List (List Datum)) → IsAdditive (z_sets row_cmp) (z_sets row_cmp) (image row_cmp f) }
@@ -71,6 +83,7 @@ fn is_send_and_sync<T: Send + Sync>() {}
 // Each type of data may be handed to another thread, and be shared.
 fn data_crosses_threads() {
     is_send_and_sync::<Pair>();
+    is_send_and_sync::<OutsideRange>();
     is_send_and_sync::<ZFault>();
     is_send_and_sync::<ZSet>();
 }

@@ -8,10 +8,9 @@ mod group;
 pub mod laws;
 mod merge;
 mod pair;
-#[cfg(test)]
-mod tests;
 mod zset;
 
 pub use group::Group;
-pub use pair::{Pair, ZFault};
+pub use merge::weight_from;
+pub use pair::{OutsideRange, Pair, ZFault};
 pub use zset::ZSet;

@@ -1,3 +1,4 @@
+//! Entries of two Z-sets into those of their sum or difference, by one merge; and copies of entries.
 ghost use Rattle.std.specs.Prelude.{◌≡◌, ◌++◌, ◌≤◌, ◌^◌, [], ℤ, false, unsigned_abs, IsTrue, IfOk, OnOk, OnErr, IfErr, Some, None, MatchOption};
 ghost use Rattle.sq_value.specs.Order.{row_cmp};
 ghost use Rattle.sq_algebra.specs.ZSet.{in_front};
@@ -5,7 +6,7 @@ ghost use Rattle.sq_zset.specs.Inside.{IsSound};
 ghost use Rattle.sq_zset.specs.Merge.{first_rows_cmp, BeginsWith, signed, signed_entries, merged};
 ghost use Rattle.sq_zset.specs.Range.{is_in_range, first_outside_in};
 
-use crate::ZFault;
+use crate::{OutsideRange, ZFault};
 use sq_value::{NoMemory, Row};
 use std::alloc::Global;
 use std::cmp::Ordering;
@@ -50,15 +51,15 @@ pub fn copy_entries(
     Ok(list)
 }
 
-/// The weight `sum`, or that it lies outside the range.
-pub fn weight_from(sum: i128) -> Result<i64, ZFault>
+/// The weight `sum`, or `OutsideRange` exactly if it lies outside the range of a weight. Takes no memory.
+pub fn weight_from(sum: i128) -> Result<i64, OutsideRange>
     ensures ok { IfOk result (λ weight. weight ≡ sum) }
     ensures in_range { OnOk result (IsTrue (is_in_range sum)) }
     ensures outside { OnErr result (is_in_range sum ≡ false) }
-    ensures fault { IfErr result (λ fault. fault ≡ ZFault.Weight sum) }
+    ensures fault { IfErr result (λ outside. outside.sum ≡ sum) }
 {
     if sum < -LIMIT || LIMIT < sum {
-        return Err(ZFault::Weight { sum });
+        return Err(OutsideRange { sum });
     }
     Ok(sum as i64)
 }

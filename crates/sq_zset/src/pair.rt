@@ -1,5 +1,6 @@
+//! A row with a weight, and why a Z-set is refused.
 ghost use Rattle.std.specs.Prelude.{◌≡◌};
-ghost use Rattle.sq_zset.specs.declared.pair.ZFault.TheVariants.{Memory};
+ghost use Rattle.sq_zset.specs.declared.pair.ZFault.TheVariants.{Memory, Weight};
 
 use sq_value::{NoMemory, Row};
 use std::alloc::{AllocError, AllocFailed};
@@ -20,6 +21,20 @@ pub enum ZFault {
     Weight { sum: i128 },
     /// Memory ran out.
     Memory,
+}
+
+/// A sum outside the range of a weight, -2^62 to 2^62.
+#[derive(Clone, Copy, Debug, PartialEq, Eq)]
+pub struct OutsideRange {
+    pub sum: i128,
+}
+
+impl From<OutsideRange> for ZFault {
+    ghost from_gives = { λ outside fault. fault ≡ Weight outside.sum };
+
+    fn from(outside: OutsideRange) -> ZFault {
+        ZFault::Weight { sum: outside.sum }
+    }
 }
 
 impl From<NoMemory> for ZFault {

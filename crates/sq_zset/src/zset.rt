@@ -1,12 +1,13 @@
-ghost use Rattle.std.specs.Prelude.{◌≡◌, ◌<◌, ◌≤◌, ◌^◌, ℕ, ℤ, List, length, slice_get, Some, unsigned_abs, IfOk};
+//! `ZSet`: rows with weights as a sorted vector, its sums and differences, and Z-sets as a group.
+ghost use Rattle.std.specs.Prelude.{◌≡◌, ◌<◌, ◌≤◌, ◌^◌, ◌∷◌, [], ℕ, ℤ, List, length, slice_get, Some, unsigned_abs, IfOk};
 ghost use Rattle.std.specs.declared.cmp.Ordering.TheVariants.{Less};
 ghost use Rattle.sq_value.specs.declared.value.Value.{Value as Datum};
 ghost use Rattle.sq_value.specs.Order.{row_cmp};
 ghost use Rattle.sq_zset.specs.Pairs.{mass, weighted_rows};
 ghost use Rattle.sq_zset.specs.Range.{first_outside, IsInRange};
-ghost use Rattle.sq_algebra.specs.ZSet.{entries, from_pairs, zero, plus, minus, negate, total, weight};
+ghost use Rattle.sq_algebra.specs.ZSet.{entries, from_pairs, of_list, zero, plus, minus, negate, total, weight};
 
-use crate::collect::{sums_of, weights_of};
+use crate::collect::{single_pairs, sums_of, weights_of};
 use crate::merge::{Sign, copy_entries, merge_entries};
 use crate::{Group, Pair, ZFault};
 use sq_value::{NoMemory, Row};
@@ -62,6 +63,40 @@ impl ZSet {
         let sums = sums_of(alloc, pairs)?;
         let entries = weights_of(alloc, sums)?;
         Ok(ZSet { entries })
+    }
+
+    /// The Z-set of a list of rows, in which each row has the number of its copies as its weight; or `NoMemory` when
+    /// memory runs out.
+    pub fn of_rows(alloc: Global, rows: Vec<Row>) -> Result<ZSet, NoMemory>
+        ensures ok { IfOk result (λ z. z ≡ of_list row_cmp rows.items) }
+        ensures in_range { IfOk result IsInRange }
+    {
+        let pairs = single_pairs(alloc, rows)?;
+        match ZSet::consolidate(alloc, pairs) {
+            Ok(z) => Ok(z),
+            Err(ZFault::Memory) => Err(NoMemory),
+            // No row stands more than 2^62 times in a list.
+            Err(ZFault::Weight { .. }) => unreachable!(),
+        }
+    }
+
+    /// The Z-set of one row with the weight 1, or `NoMemory` when memory runs out.
+    pub fn of_row(alloc: Global, row: Row) -> Result<ZSet, NoMemory>
+        ensures ok { IfOk result (λ z. z ≡ of_list row_cmp (row ∷ [])) }
+        ensures in_range { IfOk result IsInRange }
+    {
+        let mut entries = Vec::with_capacity(alloc, 1)?;
+        entries.push((row, 1))?;
+        Ok(ZSet { entries })
+    }
+
+    /// The rows with their weights, ascending. Takes the Z-set apart: no row is copied, and it takes no memory.
+    pub fn into_entries(self) -> Vec<(Row, i64)>
+        ensures entries { result.items ≡ entries self }
+        ensures in_range { IsInRange self }
+    {
+        let ZSet { entries } = self;
+        entries
     }
 
     /// How many rows have a weight. Takes no memory.

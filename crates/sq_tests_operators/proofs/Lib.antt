@@ -1,0 +1,4 @@
+mod Masses
+mod OneRow
+mod FewRows
+mod NoneBelow

@@ -1,0 +1,159 @@
+//! The calls of a `Whole` through its bound, at the types of sq_ops and at one of a test's own.
+ghost use Rattle.sq_ops.specs.Fits.{FitsRow};
+
+use crate::rows::{check_row, row_of};
+use sq_expr::{Func, Kind, is_of_kinds};
+use sq_ops::{AggSpec, Call, Distinct, Whole, WholeFault};
+use sq_value::{NoMemory, Row};
+use sq_zset::{Group, ZSet};
+use sqlite_items::Items;
+use std::alloc::Global;
+use std::process::Abort;
+use std::test::Fail;
+
+// The part of the row's key over the row alone.
+fn part_of_one<W: Whole>(alloc: Global, op: &W, row: Row) -> Result<ZSet, WholeFault>
+    requires { FitsRow (W.suits op.now) row }
+{
+    let key = op.key(alloc, &row)?;
+    let z = ZSet::of_row(alloc, row)?;
+    op.part(alloc, &key, &z)
+}
+
+// The part is this row with the weight 1.
+fn check_part(
+    rt: &impl Abort,
+    alloc: Global,
+    part: Option<Result<ZSet, WholeFault>>,
+    numbers: &[Option<i64>],
+) -> Result<(), Fail> {
+    match part {
+        Some(Ok(z)) => check_row(rt, alloc, &z, 1, numbers, 1),
+        _ => {
+            assert!(rt; false, "no part");
+            Ok(())
+        }
+    }
+}
+
+#[tactic(auto, using(sq_ops::proofs::Fitting::row_fits))]
+fn distinct_part(alloc: Global, row: Row) -> Option<Result<ZSet, WholeFault>> {
+    if is_of_kinds(&row, &[Kind::Bigint]) {
+        Some(part_of_one(alloc, &Distinct, row))
+    } else {
+        None
+    }
+}
+
+#[tactic(auto, using(sq_ops::proofs::Fitting::row_fits))]
+fn distinct_key(alloc: Global, row: &Row) -> Option<Result<Row, NoMemory>> {
+    if is_of_kinds(row, &[Kind::Bigint]) {
+        Some(Distinct.key(alloc, row))
+    } else {
+        None
+    }
+}
+
+#[test]
+fn distinct_gives_a_row_of_its_own_key(rt: HostRuntime) -> Result<(), Fail> {
+    let alloc = rt.alloc();
+    let row = row_of(alloc, &[Some(3)])?;
+    match distinct_key(alloc, &row) {
+        Some(key) => assert!(&rt; key? == row),
+        None => assert!(&rt; false, "no key"),
+    }
+    assert!(&rt; !Distinct.standing());
+    check_part(&rt, alloc, distinct_part(alloc, row), &[Some(3)])
+}
+
+#[tactic(auto, using(sq_ops::proofs::Fitting::row_fits))]
+fn agg_part(alloc: Global, spec: &AggSpec, row: Row) -> Option<Result<ZSet, WholeFault>> {
+    let kinds = [Kind::Bigint, Kind::Bigint];
+    if spec.suits(&kinds) && is_of_kinds(&row, &kinds) {
+        Some(part_of_one(alloc, spec, row))
+    } else {
+        None
+    }
+}
+
+#[test]
+fn an_aggregate_gives_the_row_of_a_group(rt: HostRuntime) -> Result<(), Fail> {
+    let alloc = rt.alloc();
+    let sum = Call {
+        func: Func::Sum,
+        arg: 1,
+    };
+    let by_first = AggSpec {
+        group: Items::from_slice(alloc, &[0])?,
+        calls: Items::from_slice(alloc, &[sum])?,
+        global: false,
+    };
+    let row = row_of(alloc, &[Some(1), Some(4)])?;
+    check_part(
+        &rt,
+        alloc,
+        agg_part(alloc, &by_first, row),
+        &[Some(1), Some(4)],
+    )?;
+    let of_all = AggSpec {
+        group: Items::new(alloc),
+        calls: Items::from_slice(alloc, &[sum])?,
+        global: true,
+    };
+    let row = row_of(alloc, &[Some(1), Some(4)])?;
+    check_part(&rt, alloc, agg_part(alloc, &of_all, row), &[Some(4)])
+}
+
+// Gives each row as it is, by a key that all rows share.
+struct Same;
+
+impl Whole for Same {
+    ghost use Rattle.std.specs.Prelude.{[], false, refl, ⊤};
+    ghost use Rattle.sq_ops.specs.Wholes.{sum_of_parts};
+
+    ghost keys = { λ _ _. [] };
+
+    ghost stands = { λ _. false };
+
+    ghost parts = { λ _ _ z. z };
+
+    ghost sums = { λ _ _. [] };
+
+    ghost suits = { λ _ _. ⊤ };
+
+    ghost answers = { λ _ z. sum_of_parts (λ _ y. y) false (λ _. []) z };
+
+    fn key(&self, alloc: Global, _: &Row) -> Result<Row, NoMemory> {
+        Ok(Row::of(Vec::new(alloc)))
+    }
+
+    fn standing(&self) -> bool {
+        false
+    }
+
+    fn part(&self, alloc: Global, _: &Row, z: &ZSet) -> Result<ZSet, WholeFault> {
+        let _ = z.len();
+        let copy = z.clone_group(alloc)?;
+        Ok(copy)
+    }
+
+    ghost adds_up = { λ _ z. refl };
+
+    ghost nothing_for_none = { λ _ c e. refl };
+}
+
+#[tactic(auto, using(sq_ops::proofs::Fitting::row_fits))]
+fn same_part(alloc: Global, row: Row) -> Option<Result<ZSet, WholeFault>> {
+    if is_of_kinds(&row, &[Kind::Bigint]) {
+        Some(part_of_one(alloc, &Same, row))
+    } else {
+        None
+    }
+}
+
+#[test]
+fn an_operator_of_its_own_gives_its_part(rt: HostRuntime) -> Result<(), Fail> {
+    let alloc = rt.alloc();
+    let row = row_of(alloc, &[Some(7)])?;
+    check_part(&rt, alloc, same_part(alloc, row), &[Some(7)])
+}

@@ -1,0 +1,157 @@
+//! Streams: three steps of each operator, refused steps that keep the state, and the laws at operators of a test's own.
+ghost use Rattle.std.specs.Prelude.{◌≡◌, List, IfOk};
+ghost use Rattle.sq_algebra.specs.Groups.{z_sets};
+ghost use Rattle.sq_algebra.specs.ZSet.{ZSet as Weighted, plus};
+ghost use Rattle.sq_stream.specs.Streams.{delayed, incremental, integral, lifted, pointwise_sum};
+ghost use Rattle.sq_value.specs.declared.value.Value.{Value as Datum};
+ghost use Rattle.sq_value.specs.Order.{row_cmp};
+
+use crate::rows::{LIMIT, SUM_LIMIT, check_rows, zset_of};
+use sq_stream::laws::{Operator, chain_rule, linear_operators_are_incremental, sum_rule};
+use sq_stream::{Delay, Differentiator, Integrator};
+use sq_zset::{ZFault, ZSet};
+use std::alloc::Global;
+use std::process::Abort;
+use std::test::Fail;
+
+// One step of all three. The differentiator is given what the integrator answers, and what it answers is checked against the change.
+fn check_step(
+    rt: &impl Abort,
+    alloc: Global,
+    stages: (&mut Integrator, &mut Differentiator, &mut Delay),
+    change: &ZSet,
+    expected: (&[(i64, i64)], &[(i64, i64)], &[(i64, i64)]),
+) -> Result<(), Fail> {
+    let (integrator, differentiator, delay) = stages;
+    let (integrated, differentiated, delayed) = expected;
+    let whole = integrator.step(alloc, change)?;
+    check_rows(rt, alloc, &whole, integrated)?;
+    let back = differentiator.step(alloc, &whole)?;
+    check_rows(rt, alloc, &back, differentiated)?;
+    let before = delay.step(alloc, change)?;
+    check_rows(rt, alloc, &before, delayed)
+}
+
+#[test]
+fn three_steps_of_each(rt: HostRuntime) -> Result<(), Fail> {
+    let alloc = rt.alloc();
+    let mut integrator = Integrator::new(alloc);
+    let mut differentiator = Differentiator::new(alloc);
+    let mut delay = Delay::new(alloc);
+    check_step(
+        &rt,
+        alloc,
+        (&mut integrator, &mut differentiator, &mut delay),
+        &zset_of(alloc, &[(1, 1)])?,
+        (&[(1, 1)], &[(1, 1)], &[]),
+    )?;
+    check_step(
+        &rt,
+        alloc,
+        (&mut integrator, &mut differentiator, &mut delay),
+        &zset_of(alloc, &[(1, -1), (2, 2)])?,
+        (&[(2, 2)], &[(1, -1), (2, 2)], &[(1, 1)]),
+    )?;
+    check_step(
+        &rt,
+        alloc,
+        (&mut integrator, &mut differentiator, &mut delay),
+        &ZSet::empty(alloc),
+        (&[(2, 2)], &[], &[(1, -1), (2, 2)]),
+    )?;
+    Ok(())
+}
+
+#[test]
+fn a_refused_step_keeps_the_state(rt: HostRuntime) -> Result<(), Fail> {
+    let alloc = rt.alloc();
+    let most = zset_of(alloc, &[(1, LIMIT)])?;
+    let one = zset_of(alloc, &[(1, 1)])?;
+    let mut integrator = Integrator::new(alloc);
+    integrator.step(alloc, &most)?;
+    assert_eq!(rt;
+        integrator.step(alloc, &one).err(),
+        Some(ZFault::Weight { sum: SUM_LIMIT + 1 })
+    );
+    let none = ZSet::empty(alloc);
+    let same = integrator.step(alloc, &none)?;
+    check_rows(&rt, alloc, &same, &[(1, LIMIT)])
+}
+
+#[test]
+fn a_difference_outside_the_range_keeps_the_state(rt: HostRuntime) -> Result<(), Fail> {
+    let alloc = rt.alloc();
+    let one = zset_of(alloc, &[(1, 1)])?;
+    let least = zset_of(alloc, &[(1, -LIMIT)])?;
+    let mut differentiator = Differentiator::new(alloc);
+    differentiator.step(alloc, &one)?;
+    assert_eq!(rt;
+        differentiator.step(alloc, &least).err(),
+        Some(ZFault::Weight {
+            sum: -SUM_LIMIT - 1
+        })
+    );
+    let none = differentiator.step(alloc, &one)?;
+    check_rows(&rt, alloc, &none, &[])
+}
+
+// The answers of an integrator to these, one after the other.
+fn integrate_all(alloc: Global, changes: &[ZSet]) -> Result<Vec<ZSet>, ZFault>
+    ensures { IfOk result (λ answers. answers.items ≡ integral (z_sets row_cmp) changes.now) }
+{
+    let mut integrator = Integrator::new(alloc);
+    let mut answers = Vec::new(alloc);
+    for change in changes {
+        let answer = integrator.step(alloc, change)?;
+        answers.push(answer)?;
+    }
+    Ok(answers)
+}
+
+#[test]
+fn a_run_of_steps_integrates(rt: HostRuntime) -> Result<(), Fail> {
+    let alloc = rt.alloc();
+    let first = zset_of(alloc, &[(1, 1)])?;
+    let second = zset_of(alloc, &[(1, -1), (2, 2)])?;
+    let answers = integrate_all(alloc, &vec![in alloc; first, second]?)?;
+    assert_eq!(rt; answers.len(), 2);
+    check_rows(&rt, alloc, &answers[0], &[(1, 1)])?;
+    check_rows(&rt, alloc, &answers[1], &[(2, 2)])
+}
+
+// The operator that adds each member to itself.
+struct Doubled;
+
+impl Operator for Doubled {
+    ghost use Rattle.sq_algebra.specs.ZSet.{plus};
+    ghost use Rattle.sq_stream.specs.Streams.{lifted};
+
+    ghost meaning = { lifted (λ z. plus z z) };
+}
+
+// The operator that answers each member one step later.
+struct Later;
+
+impl Operator for Later {
+    ghost use Rattle.sq_algebra.specs.Groups.{z_sets};
+    ghost use Rattle.sq_stream.specs.Streams.{delayed};
+    ghost use Rattle.sq_value.specs.Order.{row_cmp};
+
+    ghost meaning = { delayed (z_sets row_cmp) };
+}
+
+// The changes of what is doubled are the changes, doubled, and so is each law met at these two operators.
+fn laws_at_operators()
+    ensures linear { (s : List (Weighted (List Datum) row_cmp)) → incremental (z_sets row_cmp) (lifted (λ z. plus z z)) s ≡ lifted (λ z. plus z z) s }
+    ensures chain { (s : List (Weighted (List Datum) row_cmp)) → incremental (z_sets row_cmp) (λ t. lifted (λ z. plus z z) (delayed (z_sets row_cmp) t)) s ≡ lifted (λ z. plus z z) (incremental (z_sets row_cmp) (delayed (z_sets row_cmp)) s) }
+    ensures sum { (s : List (Weighted (List Datum) row_cmp)) → incremental (z_sets row_cmp) (λ t. pointwise_sum (z_sets row_cmp) (lifted (λ z. plus z z) t) (delayed (z_sets row_cmp) t)) s ≡ pointwise_sum (z_sets row_cmp) (lifted (λ z. plus z z) s) (incremental (z_sets row_cmp) (delayed (z_sets row_cmp)) s) }
+{
+    linear_operators_are_incremental::<Doubled>();
+    chain_rule::<Later, Doubled>();
+    sum_rule::<Doubled, Later>();
+}
+
+#[test]
+fn the_laws_hold_at_operators(_: HostRuntime) {
+    laws_at_operators();
+}

@@ -1,0 +1,79 @@
+-- The mass of a Z-set of rows, the sum of its absolute weights.
+use Rattle.std.proofs.Common.{◌≡◌, ℕ, ◌+◌, ◌≤◌, ◌+ℤ◌, ◌≤ℤ◌, List, [], ◌∷◌, ◌++◌, Bool, true, false, cond, ℤ, pos, negsuc, neg_ℤ, unsigned_abs, get_or, refl, sym, ap, ap₂, subst, ◌∙◌, arith}
+use Rattle.std.specs.List.{All, AllByRecursion, filter}
+use Rattle.std.proofs.lemmas.List.Elements.{recursion_from_All}
+use Rattle.std.proofs.lemmas.List.Sums.{sum_by-append, sum_by-cons}
+use borrow.Author.Differences.{ints}
+use Rattle.sq_value.specs.declared.value.Value.{Value}
+use Rattle.sq_value.specs.Order.{row_cmp}
+use Rattle.sq_value.specs.OrderLaws.{row_cmp-total}
+use Rattle.sq_algebra.specs.Operators.{IsNonNegative, keep}
+use Rattle.sq_algebra.specs.ZSet.{ZSet, collect, entries, from_pairs, int_sum_by, minus, negate, negated, plus, total}
+use Rattle.sq_algebra.proofs.LinearLemmas.{entry_weight}
+use Rattle.sq_algebra.proofs.Weights.{entries-from_pairs, total-entries}
+use Rattle.sq_zset.specs.Collecting.{mass_of}
+use Rattle.sq_zset.proofs.Collecting.{mass_of-add}
+
+-- ---- lists of pairs
+collected : (ps : List (List Value × ℤ)) → mass_of (collect row_cmp ps) ≤ mass_of ps
+collected [] = omega arith
+collected (p ∷ ps) =
+    let step = mass_of-add p.0 p.1 (collect row_cmp ps) in
+    let rest = collected ps in
+    let whole = sum_by-cons (λ (e : List Value × ℤ). unsigned_abs e.1) p ps in
+    omega arith
+
+abs-neg : (n : ℤ) → unsigned_abs (neg_ℤ n) ≡ unsigned_abs n
+abs-neg (pos n) = omega (arith, ints)
+abs-neg (negsuc n) = omega (arith, ints)
+
+turned : (ps : List (List Value × ℤ)) → mass_of (negated ps) ≡ mass_of ps
+turned [] = refl
+turned (p ∷ ps) =
+    sum_by-cons (λ (e : List Value × ℤ). unsigned_abs e.1) (p.0, neg_ℤ p.1) (negated ps)
+    ∙ ap₂ ◌+◌ (abs-neg p.1) (turned ps)
+    ∙ sym (sum_by-cons (λ (e : List Value × ℤ). unsigned_abs e.1) p ps)
+
+filtered : (p : List Value → Bool) (es : List (List Value × ℤ)) → mass_of (filter (λ e. p e.0) es) ≤ mass_of es
+filtered p [] = omega arith
+filtered p (e ∷ es) =
+    let rest = filtered p es in
+    let whole = sum_by-cons (λ (d : List Value × ℤ). unsigned_abs d.1) e es in
+    let step = sum_by-cons (λ (d : List Value × ℤ). unsigned_abs d.1) e (filter (λ d. p d.0) es) in
+    elim (p e.0) as (λ b. mass_of (cond b (e ∷ filter (λ d. p d.0) es) (filter (λ d. p d.0) es)) ≤ mass_of (e ∷ es)) [ true ↦ omega arith | false ↦ omega arith ]
+
+made_of : (ps : List (List Value × ℤ)) → mass_of (entries (from_pairs row_cmp ps)) ≤ mass_of ps
+made_of ps = subst (λ es. mass_of es ≤ mass_of ps) (sym (entries-from_pairs row_cmp row_cmp-total ps)) (collected ps)
+
+-- ---- sums, differences, and parts that pass a test
+pub mass-plus : (y z : ZSet (List Value) row_cmp) → mass_of (entries (plus y z)) ≤ mass_of (entries y) + mass_of (entries z)
+unfolding plus
+mass-plus y z =
+    let made = made_of (entries y ++ entries z) in
+    let both = sum_by-append (λ (e : List Value × ℤ). unsigned_abs e.1) (entries y) (entries z) in
+    omega arith
+
+pub mass-negate : (z : ZSet (List Value) row_cmp) → mass_of (entries (negate z)) ≤ mass_of (entries z)
+unfolding negate
+mass-negate z = let made = made_of (negated (entries z)) in let same = turned (entries z) in omega arith
+
+pub mass-minus : (y z : ZSet (List Value) row_cmp) → mass_of (entries (minus y z)) ≤ mass_of (entries y) + mass_of (entries z)
+mass-minus y z = let whole = mass-plus y (negate z) in let part = mass-negate z in omega arith
+
+pub mass-keep : (p : List Value → Bool) (z : ZSet (List Value) row_cmp) → mass_of (entries (keep p z)) ≤ mass_of (entries z)
+unfolding keep
+mass-keep p z = let made = made_of (filter (λ e. p e.0) (entries z)) in let part = filtered p (entries z) in omega arith
+
+-- ---- no weight below 0
+one_more : (n : ℤ) (m : ℕ) (s : ℤ) → pos 0 ≤ℤ n → pos m ≡ s → pos (unsigned_abs n + m) ≡ n +ℤ s
+one_more (pos n) m s h e = let same = e in omega (arith, ints)
+one_more (negsuc n) m s h e = let low = h in absurd (omega (arith, ints))
+
+counted : (es : List (List Value × ℤ)) → AllByRecursion (λ e. pos 0 ≤ℤ e.1) es → pos (mass_of es) ≡ int_sum_by (λ e. e.1) es
+counted [] h = refl
+counted (e ∷ es) h = ap pos (sum_by-cons (λ (d : List Value × ℤ). unsigned_abs d.1) e es) ∙ one_more e.1 (mass_of es) (int_sum_by (λ d. d.1) es) h.0 (counted es h.1)
+
+pub mass-total : (z : ZSet (List Value) row_cmp) → IsNonNegative z → pos (mass_of (entries z)) ≡ total z
+mass-total z above =
+    let each : All (λ (e : List Value × ℤ). pos 0 ≤ℤ e.1) (entries z) = λ i d low. subst (λ n. pos 0 ≤ℤ n) (entry_weight row_cmp row_cmp-total z i d low) (above (get_or (entries z) i d).0) in
+    counted (entries z) (recursion_from_All (λ (e : List Value × ℤ). pos 0 ≤ℤ e.1) (entries z) each) ∙ sym (total-entries row_cmp z)

@@ -1,0 +1,17 @@
+use Rattle.sq_zset.proofs.Masses.{mass-keep, mass-minus, mass-negate, mass-plus, mass-total}
+use Rattle.sq_zset.proofs.laws.masses_of_rows.Goals as goal
+
+pub returns-clause-total : goal.returns-clause-total
+returns-clause-total c = mass-total
+
+pub returns-clause-sum : goal.returns-clause-sum
+returns-clause-sum c = mass-plus
+
+pub returns-clause-difference : goal.returns-clause-difference
+returns-clause-difference c = mass-minus
+
+pub returns-clause-negation : goal.returns-clause-negation
+returns-clause-negation c = mass-negate
+
+pub returns-clause-part : goal.returns-clause-part
+returns-clause-part c = mass-keep
