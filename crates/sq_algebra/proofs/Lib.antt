@@ -20,3 +20,4 @@ pub mod NonNegativeLemmas
 pub mod JoinLemmas
 pub mod EntryLemmas
 pub mod PaddingLemmas
+pub mod PassingLemmas

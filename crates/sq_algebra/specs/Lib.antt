@@ -3,3 +3,4 @@ pub mod ZSet
 pub mod Groups
 pub mod Operators
 pub mod Keyed
+pub mod Passing

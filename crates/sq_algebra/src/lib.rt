@@ -5,8 +5,8 @@
 //!
 //! Weights, totals and lists stand here; `groups` has abelian groups and sums; `linear` the linear extension of a function
 //! on keys, from which the laws of the operators follow (`operators`, `products`); `keyed` sums over the keys of parts;
-//! `shards` parts by shard; `from_lists` what is done to lists as it is done to their Z-sets; `members` and `nonnegative`
-//! entries, and Z-sets that are lists.
+//! `shards` parts by shard; `from_lists` what is done to lists as it is done to their Z-sets; `members`, `passing` and
+//! `nonnegative` entries, keys that all pass a test, and Z-sets that are lists.
 #![tactic(auto)]
 
 pub mod from_lists;
@@ -16,6 +16,7 @@ pub mod linear;
 pub mod members;
 pub mod nonnegative;
 pub mod operators;
+pub mod passing;
 pub mod products;
 pub mod shards;
 

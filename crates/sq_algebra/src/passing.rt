@@ -1,0 +1,37 @@
+//! Z-sets whose keys all pass a test.
+
+ghost use Rattle.std.specs.Prelude.{◌≡◌, ℕ, List, Bool, IsTrue};
+ghost use Rattle.std.specs.FinMap.{IsAntisymmetric};
+ghost use Rattle.std.specs.List.{list_all};
+ghost use Rattle.std.specs.declared.cmp.Ordering.{Ordering};
+ghost use Rattle.sq_algebra.specs.Keyed.{Shards, at_key, cut};
+ghost use Rattle.sq_algebra.specs.Operators.{image, keep};
+ghost use Rattle.sq_algebra.specs.Passing.{all_pass};
+ghost use Rattle.sq_algebra.specs.ZSet.{ZSet, minus, negate, of_list, plus};
+
+/// All keys of a list's Z-set pass a test exactly if all members of the list do.
+pub fn tests_of_lists<K: Ord>()
+    ensures { IsAntisymmetric K.cmp → (p : K → Bool) (xs : List K) → all_pass p (of_list K.cmp xs) ≡ list_all p xs }
+{}
+
+/// If all keys of two Z-sets pass a test, so do those of their sum and their difference.
+pub fn sums_pass<K: Ord>()
+    ensures sum { (p : K → Bool) (y z : ZSet K K.cmp) → IsTrue (all_pass p y) → IsTrue (all_pass p z) → IsTrue (all_pass p (plus y z)) }
+    ensures difference { (p : K → Bool) (y z : ZSet K K.cmp) → IsTrue (all_pass p y) → IsTrue (all_pass p z) → IsTrue (all_pass p (minus y z)) }
+    ensures negation { (p : K → Bool) (z : ZSet K K.cmp) → IsTrue (all_pass p z) → IsTrue (all_pass p (negate z)) }
+{}
+
+/// If all keys of a Z-set pass a test, so do those that pass another test, those of the part of a key, and those of the
+/// part in a shard. All keys that pass a test pass it.
+pub fn parts_pass<K: Ord, C, D>()
+    ensures kept { (p q : K → Bool) (z : ZSet K K.cmp) → IsTrue (all_pass p z) → IsTrue (all_pass p (keep q z)) }
+    ensures tested { (p : K → Bool) (z : ZSet K K.cmp) → IsTrue (all_pass p (keep p z)) }
+    ensures part { (p : K → Bool) (Q : C → C → Ordering) (key : K → C) (c : C) (z : ZSet K K.cmp) → IsTrue (all_pass p z) → IsTrue (all_pass p (at_key Q key c z)) }
+    ensures shard { (p : K → Bool) (S : Shards D) (key : K → D) (s : ℕ) (z : ZSet K K.cmp) → IsTrue (all_pass p z) → IsTrue (all_pass p (cut S key s z)) }
+{}
+
+/// If all keys of a Z-set pass a test, and all images of each key that passes it pass another test, so do all keys of the
+/// image.
+pub fn images_pass<K: Ord, L: Ord>()
+    ensures { (p : K → Bool) (q : L → Bool) (f : K → List L) → ((k : K) → IsTrue (p k) → IsTrue (list_all q (f k))) → (z : ZSet K K.cmp) → IsTrue (all_pass p z) → IsTrue (all_pass q (image L.cmp f z)) }
+{}
