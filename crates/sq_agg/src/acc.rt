@@ -48,7 +48,7 @@ impl Acc {
     /// NULL. The sum is that of the values for SUM, and 0 for any other call.
     ///
     /// The rows are of kinds that suit the aggregate, and their absolute weights add up to at most 2^62. The answer is
-    /// `NoMemory` where memory runs out.
+    /// `NoMemory` when memory runs out.
     pub fn of_rows(alloc: Global, spec: &AggSpec, z: &ZSet) -> Result<Acc, NoMemory>
         requires fits { FitsRows (SuitsSpec spec.now) z.now }
         requires few { mass_of (entries z.now) ≤ 2 ^ 62 }
@@ -68,14 +68,14 @@ impl Acc {
         self.rows
     }
 
-    /// The count of the call with this number, counted from 0, and 0 where there is none. Takes no memory.
+    /// The count of the call with this number, counted from 0, and 0 if there is none. Takes no memory.
     pub fn count(&self, call: usize) -> i64
         ensures { result ≡ weight (count_place call) self.now }
     {
         tally_at(&self.tallies, call).count
     }
 
-    /// The sum of the call with this number, counted from 0, and 0 where there is none. Takes no memory.
+    /// The sum of the call with this number, counted from 0, and 0 if there is none. Takes no memory.
     pub fn sum(&self, call: usize) -> i128
         ensures { result ≡ weight (sum_place call) self.now }
     {

@@ -1,9 +1,9 @@
 //! The count and the sum of one call, and lists of them.
-ghost use Rattle.std.specs.Prelude.{◌≡◌, ◌&&◌, ◌<◌, ◌^◌, ℤ, map, pos, length, slice_get, unsigned_abs, IfOk, OnOk, OnErr, IfErr, true, false};
+ghost use Rattle.std.specs.Prelude.{◌≡◌, ◌&&◌, ◌<◌, ◌^◌, ℤ, map, pos, length, unsigned_abs, IfOk, OnOk, OnErr, IfErr, false};
 ghost use Rattle.std.specs.List.{AllByRecursion, list_all};
 ghost use Rattle.std.specs.Ordering.{int_eq};
 ghost use Rattle.sq_agg.specs.Accumulators.{call_tally, is_sum_in_range};
-ghost use Rattle.sq_agg.specs.Tallies.{IsWithin, both, first_of_tally, first_of_tallies, is_no_tally, no_tally, summed, tally_or_none, turned};
+ghost use Rattle.sq_agg.specs.Tallies.{IsWithin, both, first_of_tally, first_of_tallies, is_no_tally, summed, tally_or_none, turned};
 ghost use Rattle.sq_ops.specs.Measures.{IsMeasurable};
 ghost use Rattle.sq_zset.specs.declared.pair.OutsideRange.{OutsideRange as Outside};
 
@@ -70,7 +70,7 @@ fn sum_from(sum: i128) -> Result<i128, OutsideRange>
     Ok(sum)
 }
 
-/// The counts and sums of a call number, nothing where there is no such call.
+/// The counts and sums of a call number, nothing if there is no such call.
 pub fn tally_at(tallies: &[Tally], i: usize) -> Tally
     requires { AllByRecursion IsWithin tallies.now }
     ensures tally { result ≡ tally_or_none i tallies.now }

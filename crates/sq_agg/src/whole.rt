@@ -19,12 +19,12 @@ use sq_zset::ZSet;
 use std::alloc::Global;
 use std::collections::BTreeMap;
 
-/// One row for each group, the group columns and the values of the calls, where each row counts as often as its weight
+/// One row for each group, the group columns and the values of the calls, in which each row counts as often as its weight
 /// says.
 ///
 /// The rows are of kinds that suit the aggregate, without negative weights and with a total of at most 2^61. The answer
-/// is `Sum` exactly where a SUM of some group lies outside the range of BIGINT, with the first such group in the order of
-/// rows and its first such sum, and `Memory` where memory runs out.
+/// is `Sum` exactly if a SUM of some group lies outside the range of BIGINT, with the first such group in the order of
+/// rows and its first such sum, and `Memory` when memory runs out.
 pub fn agg_whole(alloc: Global, spec: &AggSpec, z: &ZSet) -> Result<ZSet, WholeFault>
     requires fits { FitsRows (SuitsSpec spec.now) z.now }
     requires not_negative { IsNonNegative z.now }

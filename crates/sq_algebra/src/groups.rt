@@ -23,6 +23,7 @@ pub fn pairs_and_functions_are_groups<A, B, X>()
 {}
 
 /// A summand falls away against the same one taken off, and so do equal parts of two sums.
+/// In short: `(a + b) - a = b`, `a + (b - a) = b`, `a - a = 0`.
 pub fn differences_cancel<A>()
     ensures left { (G : AbelianGroup A) → IsAbelian G → (a b : A) → minus G (G.plus a b) a ≡ b }
     ensures right { (G : AbelianGroup A) → IsAbelian G → (a b : A) → minus G (G.plus a b) b ≡ a }
@@ -33,6 +34,7 @@ pub fn differences_cancel<A>()
 {}
 
 /// The difference of two sums is the sum of the differences, and differences add up in a row.
+/// In short: `(a + b) - (c + d) = (a - c) + (b - d)`, `(a - b) + (b - c) = a - c`, `a - 0 = a`.
 pub fn differences_add<A>()
     ensures sums { (G : AbelianGroup A) → IsAbelian G → (a b c d : A) → minus G (G.plus a b) (G.plus c d) ≡ G.plus (minus G a c) (minus G b d) }
     ensures row { (G : AbelianGroup A) → IsAbelian G → (a b c : A) → G.plus (minus G a b) (minus G b c) ≡ minus G a c }
@@ -40,6 +42,7 @@ pub fn differences_add<A>()
 {}
 
 /// The negation of zero, of a negation and of a sum.
+/// In short: `-0 = 0`, `-(-a) = a`, `-(a + b) = -a + -b`.
 pub fn negations_add<A>()
     ensures zero { (G : AbelianGroup A) → IsAbelian G → G.negate G.zero ≡ G.zero }
     ensures twice { (G : AbelianGroup A) → IsAbelian G → (a : A) → G.negate (G.negate a) ≡ a }
@@ -47,6 +50,7 @@ pub fn negations_add<A>()
 {}
 
 /// Multiples: by 0, by 1, by a sum, by a product and by a negation, and of zero and of a sum.
+/// In short: `0a = 0`, `1a = a`, `(m + n)a = ma + na`, `m(na) = (mn)a`, `(-n)a = -(na)`, `n(a + b) = na + nb`.
 pub fn multiples_add<A>()
     ensures by_none { (G : AbelianGroup A) → IsAbelian G → (a : A) → times G (pos 0) a ≡ G.zero }
     ensures by_one { (G : AbelianGroup A) → IsAbelian G → (a : A) → times G (pos 1) a ≡ a }
@@ -58,6 +62,7 @@ pub fn multiples_add<A>()
 {}
 
 /// An additive map keeps zero, negations, differences and multiples, and goes inside a sum over a list.
+/// In short: `f(0) = 0`, `f(-a) = -f(a)`, `f(a - b) = f(a) - f(b)`, `f(na) = n f(a)`, `f(Σ g) = Σ f(g)`.
 pub fn additive_maps<A, B, X>()
     ensures zero { (G : AbelianGroup A) (H : AbelianGroup B) → IsAbelian G → IsAbelian H → (f : A → B) → IsAdditive G H f → f G.zero ≡ H.zero }
     ensures negation { (G : AbelianGroup A) (H : AbelianGroup B) → IsAbelian G → IsAbelian H → (f : A → B) → IsAdditive G H f → (a : A) → f (G.negate a) ≡ H.negate (f a) }
@@ -76,11 +81,15 @@ pub fn additive_maps_compose<A, B, C>()
 {}
 
 /// The change of a map that is additive in each of two places, by the changes of these.
+/// In short: `f(a + Δa, b + Δb) - f(a, b) = f(a, Δb) + f(Δa, b) + f(Δa, Δb)`.
 pub fn bilinear_maps_change<A, B, C>()
-    ensures { (G : AbelianGroup A) (H : AbelianGroup B) (F : AbelianGroup C) → IsAbelian F → (f : A → B → C) → ((b : B) → IsAdditive G F (λ a. f a b)) → ((a : A) → IsAdditive H F (f a)) → (a da : A) (b db : B) → minus F (f (G.plus a da) (H.plus b db)) (f a b) ≡ F.plus (F.plus (f a db) (f da b)) (f da db) }
+    ensures { (G : AbelianGroup A) (H : AbelianGroup B) (F : AbelianGroup C) → IsAbelian F → (f : A → B → C) → ((b : B) → IsAdditive G F (λ a. f a b))
+        → ((a : A) → IsAdditive H F (f a)) → (a da : A) (b db : B) → minus F (f (G.plus a da) (H.plus b db)) (f a b)
+        ≡ F.plus (F.plus (f a db) (f da b)) (f da db) }
 {}
 
 /// Sums over joined, filtered and mapped lists, and the two sums of a double sum in the other order.
+/// In short: `Σ_x Σ_y f(x, y) = Σ_y Σ_x f(x, y)`, and alike.
 pub fn sums_over_lists<A, X, Y>()
     ensures joined { (G : AbelianGroup A) → IsAbelian G → (f : X → A) (xs ys : List X) → sum_over G f (xs ++ ys) ≡ G.plus (sum_over G f xs) (sum_over G f ys) }
     ensures filtered { (G : AbelianGroup A) → IsAbelian G → (f : X → A) (p : X → Bool) (xs : List X) → sum_over G f (filter p xs) ≡ sum_over G (λ x. if p x then f x else G.zero) xs }

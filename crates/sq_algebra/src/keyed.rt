@@ -15,10 +15,12 @@ pub fn parts_are_linear<C: Ord, K: Ord, D>()
     ensures weights { IsAntisymmetric C.cmp → IsAntisymmetric K.cmp → (key : K → C) (k : K) (c : C) (z : ZSet K K.cmp) → weight k (at_key C.cmp key c z) ≡ (if is_eq (C.cmp c (key k)) then weight k z else pos 0) }
     ensures additive { IsAntisymmetric C.cmp → IsAntisymmetric K.cmp → (key : K → C) (c : C) → IsAdditive (z_sets K.cmp) (z_sets K.cmp) (at_key C.cmp key c) }
     ensures none { IsAntisymmetric C.cmp → IsAntisymmetric K.cmp → (key : K → C) (c : C) → at_key C.cmp key c (zero K.cmp) ≡ zero K.cmp }
-    ensures part { IsAntisymmetric C.cmp → IsAntisymmetric K.cmp → (key : K → C) (P : D → D → Ordering) (place : K → D) (inner : C → D) → ((k : K) → place k ≡ inner (key k)) → (c : C) (d : D) (z : ZSet K K.cmp) → at_key C.cmp key c (at_key P place d z) ≡ (if is_eq (P d (inner c)) then at_key C.cmp key c z else zero K.cmp) }
+    ensures part { IsAntisymmetric C.cmp → IsAntisymmetric K.cmp → (key : K → C) (P : D → D → Ordering) (place : K → D) (inner : C → D)
+        → ((k : K) → place k ≡ inner (key k)) → (c : C) (d : D) (z : ZSet K K.cmp) → at_key C.cmp key c (at_key P place d z)
+        ≡ (if is_eq (P d (inner c)) then at_key C.cmp key c z else zero K.cmp) }
 {}
 
-/// The keys that a Z-set has, ascending, cover it. A list covers it exactly where each key with a weight has its own in
+/// The keys that a Z-set has, ascending, cover it. A list covers it exactly if each key with a weight has its own in
 /// the list once, and then covers what is left of it after a test. The keys that a Z-set has are those with a part that
 /// is not empty, and each stands in every cover.
 pub fn covers_are_covers<C: Ord, K: Ord>()
@@ -33,63 +35,108 @@ pub fn covers_are_covers<C: Ord, K: Ord>()
 
 /// The parts by the keys of a cover add up to the Z-set, and what an additive map gives for them adds up to what it
 /// gives for the Z-set.
+/// In short: `Σ_c z|c = z` and `Σ_c f(z|c) = f(z)`.
 pub fn parts_add_up<C: Ord, K: Ord, A>()
     ensures whole { IsAntisymmetric C.cmp → IsAntisymmetric K.cmp → (key : K → C) (cs : List C) (z : ZSet K K.cmp) → CoversOnce C.cmp key cs z → sum_over (z_sets K.cmp) (λ c. at_key C.cmp key c z) cs ≡ z }
-    ensures additive { IsAntisymmetric C.cmp → IsAntisymmetric K.cmp → (key : K → C) (G : AbelianGroup A) → IsAbelian G → (f : ZSet K K.cmp → A) → IsAdditive (z_sets K.cmp) G f → (cs : List C) (z : ZSet K K.cmp) → CoversOnce C.cmp key cs z → sum_over G (λ c. f (at_key C.cmp key c z)) cs ≡ f z }
+    ensures additive { IsAntisymmetric C.cmp → IsAntisymmetric K.cmp → (key : K → C) (G : AbelianGroup A) → IsAbelian G → (f : ZSet K K.cmp → A)
+        → IsAdditive (z_sets K.cmp) G f → (cs : List C) (z : ZSet K K.cmp) → CoversOnce C.cmp key cs z → sum_over G (λ c. f (at_key C.cmp key c z)) cs ≡ f z }
 {}
 
-/// A sum over the keys, where the part over no keys is zero: it is the sum over any list of keys that covers the Z-set;
+/// A sum over the keys, if the part over no keys is zero: it is the sum over any list of keys that covers the Z-set;
 /// over no keys it is zero; and its change by a change of the Z-set is the sum of the changes of the parts over the
 /// keys of the change.
+/// In short: with `F(z) = Σ_c P c (z|c)`, `F(z + d) - F(z) = Σ_c (P c ((z + d)|c) - P c (z|c))` over the keys of `d`.
 pub fn sums_over_keys<C: Ord, K: Ord, A>()
-    ensures cover { IsAntisymmetric C.cmp → IsAntisymmetric K.cmp → (key : K → C) (G : AbelianGroup A) → IsAbelian G → (part : C → ZSet K K.cmp → A) → ((c : C) → part c (zero K.cmp) ≡ G.zero) → (cs : List C) (z : ZSet K K.cmp) → CoversOnce C.cmp key cs z → by_key C.cmp key G part z ≡ sum_over G (λ c. part c (at_key C.cmp key c z)) cs }
-    ensures none { IsAntisymmetric C.cmp → IsAntisymmetric K.cmp → (key : K → C) (G : AbelianGroup A) → IsAbelian G → (part : C → ZSet K K.cmp → A) → ((c : C) → part c (zero K.cmp) ≡ G.zero) → by_key C.cmp key G part (zero K.cmp) ≡ G.zero }
-    ensures change { IsAntisymmetric C.cmp → IsAntisymmetric K.cmp → (key : K → C) (G : AbelianGroup A) → IsAbelian G → (part : C → ZSet K K.cmp → A) → ((c : C) → part c (zero K.cmp) ≡ G.zero) → (cs : List C) (z d : ZSet K K.cmp) → CoversOnce C.cmp key cs d → minus_in G (by_key C.cmp key G part (plus z d)) (by_key C.cmp key G part z) ≡ sum_over G (λ c. minus_in G (part c (at_key C.cmp key c (plus z d))) (part c (at_key C.cmp key c z))) cs }
+    ensures cover { IsAntisymmetric C.cmp → IsAntisymmetric K.cmp → (key : K → C) (G : AbelianGroup A) → IsAbelian G → (part : C → ZSet K K.cmp → A)
+        → ((c : C) → part c (zero K.cmp) ≡ G.zero) → (cs : List C) (z : ZSet K K.cmp) → CoversOnce C.cmp key cs z → by_key C.cmp key G part z
+        ≡ sum_over G (λ c. part c (at_key C.cmp key c z)) cs }
+    ensures none { IsAntisymmetric C.cmp → IsAntisymmetric K.cmp → (key : K → C) (G : AbelianGroup A) → IsAbelian G → (part : C → ZSet K K.cmp → A)
+        → ((c : C) → part c (zero K.cmp) ≡ G.zero) → by_key C.cmp key G part (zero K.cmp) ≡ G.zero }
+    ensures change { IsAntisymmetric C.cmp → IsAntisymmetric K.cmp → (key : K → C) (G : AbelianGroup A) → IsAbelian G → (part : C → ZSet K K.cmp → A)
+        → ((c : C) → part c (zero K.cmp) ≡ G.zero) → (cs : List C) (z d : ZSet K K.cmp) → CoversOnce C.cmp key cs d
+        → minus_in G (by_key C.cmp key G part (plus z d)) (by_key C.cmp key G part z)
+        ≡ sum_over G (λ c. minus_in G (part c (at_key C.cmp key c (plus z d))) (part c (at_key C.cmp key c z))) cs }
 {}
 
 /// Parts that agree have the same sum over the keys; an additive map goes inside it; and over the part of one key only
 /// what is given for this key is left.
 pub fn sums_over_keys_of_parts<C: Ord, K: Ord, A, B>()
     ensures same { (key : K → C) (G : AbelianGroup A) (part other : C → ZSet K K.cmp → A) → ((c : C) (y : ZSet K K.cmp) → part c y ≡ other c y) → (z : ZSet K K.cmp) → by_key C.cmp key G part z ≡ by_key C.cmp key G other z }
-    ensures inside { (key : K → C) (G : AbelianGroup A) → IsAbelian G → (H : AbelianGroup B) → IsAbelian H → (f : A → B) → IsAdditive G H f → (part : C → ZSet K K.cmp → A) (z : ZSet K K.cmp) → f (by_key C.cmp key G part z) ≡ by_key C.cmp key H (λ c y. f (part c y)) z }
-    ensures one_key { IsAntisymmetric C.cmp → IsAntisymmetric K.cmp → (key : K → C) (G : AbelianGroup A) → IsAbelian G → (part : C → ZSet K K.cmp → A) → ((c : C) → part c (zero K.cmp) ≡ G.zero) → (c : C) (z : ZSet K K.cmp) → by_key C.cmp key G part (at_key C.cmp key c z) ≡ part c (at_key C.cmp key c z) }
+    ensures inside { (key : K → C) (G : AbelianGroup A) → IsAbelian G → (H : AbelianGroup B) → IsAbelian H → (f : A → B) → IsAdditive G H f
+        → (part : C → ZSet K K.cmp → A) (z : ZSet K K.cmp) → f (by_key C.cmp key G part z) ≡ by_key C.cmp key H (λ c y. f (part c y)) z }
+    ensures one_key { IsAntisymmetric C.cmp → IsAntisymmetric K.cmp → (key : K → C) (G : AbelianGroup A) → IsAbelian G → (part : C → ZSet K K.cmp → A)
+        → ((c : C) → part c (zero K.cmp) ≡ G.zero) → (c : C) (z : ZSet K K.cmp) → by_key C.cmp key G part (at_key C.cmp key c z)
+        ≡ part c (at_key C.cmp key c z) }
 {}
 
 /// A sum over the keys of additive parts is additive, and one of linear extensions is a linear extension.
 pub fn sums_over_keys_are_linear<C: Ord, K: Ord, A>()
-    ensures additive { IsAntisymmetric C.cmp → IsAntisymmetric K.cmp → (key : K → C) (G : AbelianGroup A) → IsAbelian G → (part : C → ZSet K K.cmp → A) → ((c : C) → IsAdditive (z_sets K.cmp) G (part c)) → IsAdditive (z_sets K.cmp) G (by_key C.cmp key G part) }
-    ensures extension { IsAntisymmetric C.cmp → IsAntisymmetric K.cmp → (key : K → C) (G : AbelianGroup A) → IsAbelian G → (h : C → K → A) (z : ZSet K K.cmp) → by_key C.cmp key G (λ c y. lin G (h c) y) z ≡ lin G (λ k. h (key k) k) z }
+    ensures additive { IsAntisymmetric C.cmp → IsAntisymmetric K.cmp → (key : K → C) (G : AbelianGroup A) → IsAbelian G
+        → (part : C → ZSet K K.cmp → A) → ((c : C) → IsAdditive (z_sets K.cmp) G (part c)) → IsAdditive (z_sets K.cmp) G (by_key C.cmp key G part) }
+    ensures extension { IsAntisymmetric C.cmp → IsAntisymmetric K.cmp → (key : K → C) (G : AbelianGroup A) → IsAbelian G
+        → (h : C → K → A) (z : ZSet K K.cmp) → by_key C.cmp key G (λ c y. lin G (h c) y) z ≡ lin G (λ k. h (key k) k) z }
 {}
 
-/// Where the key of a row tells its place, a sum over the keys adds up over the parts by place: a finer key under a
+/// If the key of a row tells its place, a sum over the keys adds up over the parts by place: a finer key under a
 /// coarser one.
+/// In short: `Σ_d F(z|d) = F(z)`.
 pub fn sums_over_keys_add_up<C: Ord, K: Ord, D: Ord, A>()
-    ensures { IsAntisymmetric C.cmp → IsAntisymmetric K.cmp → IsAntisymmetric D.cmp → (key : K → C) (place : K → D) (inner : C → D) → ((k : K) → place k ≡ inner (key k)) → (G : AbelianGroup A) → IsAbelian G → (part : C → ZSet K K.cmp → A) → ((c : C) → part c (zero K.cmp) ≡ G.zero) → (ds : List D) (z : ZSet K K.cmp) → CoversOnce D.cmp place ds z → sum_over G (λ d. by_key C.cmp key G part (at_key D.cmp place d z)) ds ≡ by_key C.cmp key G part z }
+    ensures { IsAntisymmetric C.cmp → IsAntisymmetric K.cmp → IsAntisymmetric D.cmp → (key : K → C) (place : K → D) (inner : C → D)
+        → ((k : K) → place k ≡ inner (key k)) → (G : AbelianGroup A) → IsAbelian G → (part : C → ZSet K K.cmp → A) → ((c : C) → part c (zero K.cmp) ≡ G.zero)
+        → (ds : List D) (z : ZSet K K.cmp) → CoversOnce D.cmp place ds z → sum_over G (λ d. by_key C.cmp key G part (at_key D.cmp place d z)) ds
+        ≡ by_key C.cmp key G part z }
 {}
 
-/// Where two keys have images only if they have the same key, the products of the parts by the keys of a cover of one
+/// If two keys have images only if they have the same key, the products of the parts by the keys of a cover of one
 /// side add up to the product.
+/// In short: `Σ_c (y|c × z|c) = y × z`.
 pub fn products_add_up_by_key<C: Ord, J: Ord, K: Ord, L: Ord>()
-    ensures left { IsAntisymmetric C.cmp → IsAntisymmetric J.cmp → IsAntisymmetric K.cmp → IsAntisymmetric L.cmp → (left : J → C) (right : K → C) (f : J → K → List L) → ((j : J) (k : K) → is_eq (C.cmp (left j) (right k)) ≡ false → f j k ≡ []) → (cs : List C) (y : ZSet J J.cmp) (z : ZSet K K.cmp) → CoversOnce C.cmp left cs y → sum_over (z_sets L.cmp) (λ c. product L.cmp f (at_key C.cmp left c y) (at_key C.cmp right c z)) cs ≡ product L.cmp f y z }
-    ensures right { IsAntisymmetric C.cmp → IsAntisymmetric J.cmp → IsAntisymmetric K.cmp → IsAntisymmetric L.cmp → (left : J → C) (right : K → C) (f : J → K → List L) → ((j : J) (k : K) → is_eq (C.cmp (left j) (right k)) ≡ false → f j k ≡ []) → (cs : List C) (y : ZSet J J.cmp) (z : ZSet K K.cmp) → CoversOnce C.cmp right cs z → sum_over (z_sets L.cmp) (λ c. product L.cmp f (at_key C.cmp left c y) (at_key C.cmp right c z)) cs ≡ product L.cmp f y z }
+    ensures left { IsAntisymmetric C.cmp → IsAntisymmetric J.cmp → IsAntisymmetric K.cmp → IsAntisymmetric L.cmp
+        → (left : J → C) (right : K → C) (f : J → K → List L) → ((j : J) (k : K) → is_eq (C.cmp (left j) (right k)) ≡ false → f j k ≡ [])
+        → (cs : List C) (y : ZSet J J.cmp) (z : ZSet K K.cmp) → CoversOnce C.cmp left cs y
+        → sum_over (z_sets L.cmp) (λ c. product L.cmp f (at_key C.cmp left c y) (at_key C.cmp right c z)) cs ≡ product L.cmp f y z }
+    ensures right { IsAntisymmetric C.cmp → IsAntisymmetric J.cmp → IsAntisymmetric K.cmp → IsAntisymmetric L.cmp
+        → (left : J → C) (right : K → C) (f : J → K → List L) → ((j : J) (k : K) → is_eq (C.cmp (left j) (right k)) ≡ false → f j k ≡ [])
+        → (cs : List C) (y : ZSet J J.cmp) (z : ZSet K K.cmp) → CoversOnce C.cmp right cs z
+        → sum_over (z_sets L.cmp) (λ c. product L.cmp f (at_key C.cmp left c y) (at_key C.cmp right c z)) cs ≡ product L.cmp f y z }
 {}
 
 /// The change of the product of the pairs with the same optional keys, key by key of a list that covers the changes of
 /// both sides.
+/// In short: `Δ(y ⋈ z) = Σ_c (y|c ⋈ Δz|c + Δy|c ⋈ z|c + Δy|c ⋈ Δz|c)`.
 pub fn joins_change_by_key<C: Ord, J: Ord, K: Ord, L: Ord>()
-    ensures { IsAntisymmetric C.cmp → IsAntisymmetric J.cmp → IsAntisymmetric K.cmp → IsAntisymmetric L.cmp → (left : J → Option C) (right : K → Option C) (pair : J → K → Option L) (cs : List C) (y dy : ZSet J J.cmp) (z dz : ZSet K K.cmp) → CoversSomeOnce C.cmp left cs dy → CoversSomeOnce C.cmp right cs dz → minus (product L.cmp (pairs_where C.cmp left right pair) (plus y dy) (plus z dz)) (product L.cmp (pairs_where C.cmp left right pair) y z) ≡ sum_over (z_sets L.cmp) (λ c. plus (plus (product L.cmp (pairs_where C.cmp left right pair) (at_some_key C.cmp left c y) (at_some_key C.cmp right c dz)) (product L.cmp (pairs_where C.cmp left right pair) (at_some_key C.cmp left c dy) (at_some_key C.cmp right c z))) (product L.cmp (pairs_where C.cmp left right pair) (at_some_key C.cmp left c dy) (at_some_key C.cmp right c dz))) cs }
+    ensures { IsAntisymmetric C.cmp → IsAntisymmetric J.cmp → IsAntisymmetric K.cmp → IsAntisymmetric L.cmp
+        → (left : J → Option C) (right : K → Option C) (pair : J → K → Option L) (cs : List C) (y dy : ZSet J J.cmp) (z dz : ZSet K K.cmp)
+        → CoversSomeOnce C.cmp left cs dy → CoversSomeOnce C.cmp right cs dz
+        → minus (product L.cmp (pairs_where C.cmp left right pair) (plus y dy) (plus z dz)) (product L.cmp (pairs_where C.cmp left right pair) y z)
+        ≡ sum_over (z_sets L.cmp) (λ c. plus (plus
+        (product L.cmp (pairs_where C.cmp left right pair) (at_some_key C.cmp left c y) (at_some_key C.cmp right c dz))
+        (product L.cmp (pairs_where C.cmp left right pair) (at_some_key C.cmp left c dy) (at_some_key C.cmp right c z)))
+        (product L.cmp (pairs_where C.cmp left right pair) (at_some_key C.cmp left c dy) (at_some_key C.cmp right c dz))) cs }
 {}
 
 /// The products of the parts add up also for the pairs with the same optional keys, by the keys of a list that covers
 /// those of one side, as the keys that are there do. Two keys without a common key have no image.
 pub fn products_add_up_by_optional_key<C: Ord, J: Ord, K: Ord, L: Ord>()
-    ensures left { IsAntisymmetric C.cmp → IsAntisymmetric J.cmp → IsAntisymmetric K.cmp → IsAntisymmetric L.cmp → (left : J → Option C) (right : K → Option C) (pair : J → K → Option L) (cs : List C) (y : ZSet J J.cmp) (z : ZSet K K.cmp) → CoversSomeOnce C.cmp left cs y → sum_over (z_sets L.cmp) (λ c. product L.cmp (pairs_where C.cmp left right pair) (at_some_key C.cmp left c y) (at_some_key C.cmp right c z)) cs ≡ product L.cmp (pairs_where C.cmp left right pair) y z }
-    ensures right { IsAntisymmetric C.cmp → IsAntisymmetric J.cmp → IsAntisymmetric K.cmp → IsAntisymmetric L.cmp → (left : J → Option C) (right : K → Option C) (pair : J → K → Option L) (cs : List C) (y : ZSet J J.cmp) (z : ZSet K K.cmp) → CoversSomeOnce C.cmp right cs z → sum_over (z_sets L.cmp) (λ c. product L.cmp (pairs_where C.cmp left right pair) (at_some_key C.cmp left c y) (at_some_key C.cmp right c z)) cs ≡ product L.cmp (pairs_where C.cmp left right pair) y z }
+    ensures left { IsAntisymmetric C.cmp → IsAntisymmetric J.cmp → IsAntisymmetric K.cmp → IsAntisymmetric L.cmp
+        → (left : J → Option C) (right : K → Option C) (pair : J → K → Option L) (cs : List C) (y : ZSet J J.cmp) (z : ZSet K K.cmp)
+        → CoversSomeOnce C.cmp left cs y
+        → sum_over (z_sets L.cmp) (λ c. product L.cmp (pairs_where C.cmp left right pair) (at_some_key C.cmp left c y) (at_some_key C.cmp right c z)) cs
+        ≡ product L.cmp (pairs_where C.cmp left right pair) y z }
+    ensures right { IsAntisymmetric C.cmp → IsAntisymmetric J.cmp → IsAntisymmetric K.cmp → IsAntisymmetric L.cmp
+        → (left : J → Option C) (right : K → Option C) (pair : J → K → Option L) (cs : List C) (y : ZSet J J.cmp) (z : ZSet K K.cmp)
+        → CoversSomeOnce C.cmp right cs z
+        → sum_over (z_sets L.cmp) (λ c. product L.cmp (pairs_where C.cmp left right pair) (at_some_key C.cmp left c y) (at_some_key C.cmp right c z)) cs
+        ≡ product L.cmp (pairs_where C.cmp left right pair) y z }
     ensures cover { (key : K → Option C) (z : ZSet K K.cmp) → CoversSomeOnce C.cmp key (some_keys_of C.cmp key z) z }
-    ensures apart { IsAntisymmetric C.cmp → IsAntisymmetric J.cmp → IsAntisymmetric K.cmp → IsAntisymmetric L.cmp → (left : J → Option C) (right : K → Option C) (pair : J → K → Option L) (left_of : J → C) (right_of : K → C) → ((j : J) (c : C) → left j ≡ Some c → left_of j ≡ c) → ((k : K) (c : C) → right k ≡ Some c → right_of k ≡ c) → (j : J) (k : K) → is_eq (C.cmp (left_of j) (right_of k)) ≡ false → pairs_where C.cmp left right pair j k ≡ [] }
+    ensures apart { IsAntisymmetric C.cmp → IsAntisymmetric J.cmp → IsAntisymmetric K.cmp → IsAntisymmetric L.cmp
+        → (left : J → Option C) (right : K → Option C) (pair : J → K → Option L) (left_of : J → C) (right_of : K → C)
+        → ((j : J) (c : C) → left j ≡ Some c → left_of j ≡ c) → ((k : K) (c : C) → right k ≡ Some c → right_of k ≡ c) → (j : J) (k : K)
+        → is_eq (C.cmp (left_of j) (right_of k)) ≡ false → pairs_where C.cmp left right pair j k ≡ [] }
 {}
 
 /// The distinct Z-set is a sum over the keys themselves.
+/// In short: `distinct(z) = Σ_k [z(k) > 0] k`.
 pub fn distinct_is_by_key<K: Ord>()
     ensures { IsAntisymmetric K.cmp → (z : ZSet K K.cmp) → distinct z ≡ by_key K.cmp (λ k. k) (z_sets K.cmp) (λ k y. if int_lt (pos 0) (weight k y) then single K.cmp k else zero K.cmp) z }
 {}

@@ -1,7 +1,7 @@
 //! Z-sets (DBSP, PVLDB 16(7), 2023) and lists in which a key may stand several times: the definitions, and their laws.
 //!
 //! No code here runs. Each function has an empty body, and its contract is a law. The laws hold for every type of keys;
-//! where one has the premise `IsAntisymmetric`, the order of the keys answers `Equal` only at identical keys.
+//! if one has the premise `IsAntisymmetric`, the order of the keys answers `Equal` only at identical keys.
 //!
 //! Weights, totals and lists stand here; `groups` has abelian groups and sums; `linear` the linear extension of a function
 //! on keys, from which the laws of the operators follow (`operators`, `products`); `keyed` sums over the keys of parts;
@@ -42,6 +42,7 @@ pub fn entries_are_canonical<K: Ord>()
 {}
 
 /// The weight of a key in the empty Z-set, in that of one key, and in a sum, a negation and a difference.
+/// In short: `(y + z)(k) = y(k) + z(k)`, `(-z)(k) = -z(k)`, `(y - z)(k) = y(k) - z(k)`.
 pub fn weights_add<K: Ord>()
     ensures none { (k : K) → weight k (zero K.cmp) ≡ pos 0 }
     ensures one { (k j : K) → weight k (single K.cmp j) ≡ (if is_eq (K.cmp k j) then pos 1 else pos 0) }
@@ -51,6 +52,7 @@ pub fn weights_add<K: Ord>()
 {}
 
 /// The total of the empty Z-set, and of a sum, a negation and a difference.
+/// In short: `|y + z| = |y| + |z|`, with `|z| = Σ_k z(k)`.
 pub fn totals_add<K: Ord>()
     ensures none { total (zero K.cmp) ≡ pos 0 }
     ensures sum { (y z : ZSet K K.cmp) → total (plus y z) ≡ total y +ℤ total z }

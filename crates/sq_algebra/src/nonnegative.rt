@@ -13,7 +13,7 @@ pub fn nonnegative_is_a_list<K: Ord>()
     ensures total { IsAntisymmetric K.cmp → (z : ZSet K K.cmp) → IsNonNegative z → total z ≡ pos (length (repeated z)) }
 {}
 
-/// The operators give no weight below 0 where they are given none.
+/// The operators give no weight below 0 if they are given none.
 pub fn operators_stay_nonnegative<J: Ord, K: Ord, L: Ord>()
     ensures sum { (y z : ZSet K K.cmp) → IsNonNegative y → IsNonNegative z → IsNonNegative (plus y z) }
     ensures distinct { (z : ZSet K K.cmp) → IsNonNegative (distinct z) }

@@ -8,6 +8,7 @@ ghost use Rattle.sq_algebra.specs.Groups.{AbelianGroup, IsAbelian, IsAdditive, i
 ghost use Rattle.sq_algebra.specs.Operators.{lin, image, keep, distinct, product};
 
 /// The image of a Z-set is a linear extension, so it is additive; over no keys it is empty.
+/// In short: `f(y + z) = f(y) + f(z)`, `f(0) = 0`.
 pub fn images_are_linear<K: Ord, L: Ord>()
     ensures extension { IsAntisymmetric K.cmp → IsAntisymmetric L.cmp → (f : K → List L) (z : ZSet K K.cmp) → image L.cmp f z ≡ lin (z_sets L.cmp) (λ k. of_list L.cmp (f k)) z }
     ensures additive { IsAntisymmetric K.cmp → IsAntisymmetric L.cmp → (f : K → List L) → IsAdditive (z_sets K.cmp) (z_sets L.cmp) (image L.cmp f) }
@@ -17,6 +18,7 @@ pub fn images_are_linear<K: Ord, L: Ord>()
 {}
 
 /// An image after an image, after a test and before a test is an image, and a linear extension goes over the images.
+/// In short: `g(f(z)) = (g ∘ f)(z)`.
 pub fn images_follow_each_other<K: Ord, L: Ord, M: Ord, A>()
     ensures image { IsAntisymmetric K.cmp → IsAntisymmetric L.cmp → IsAntisymmetric M.cmp → (g : L → List M) (f : K → List L) (z : ZSet K K.cmp) → image M.cmp g (image L.cmp f z) ≡ image M.cmp (λ k. flat_map g (f k)) z }
     ensures after_test { IsAntisymmetric K.cmp → IsAntisymmetric L.cmp → (f : K → List L) (p : K → Bool) (z : ZSet K K.cmp) → image L.cmp f (keep p z) ≡ image L.cmp (λ k. if p k then f k else []) z }
@@ -34,6 +36,7 @@ pub fn tests_are_linear<K: Ord, A>()
 {}
 
 /// One test after another, a test that all keys or no keys pass, and what passes with what does not.
+/// In short: `σ_p(σ_q(z)) = σ_{p ∧ q}(z)`, `σ_p(z) + σ_{¬p}(z) = z`.
 pub fn tests_follow_each_other<K: Ord>()
     ensures both { IsAntisymmetric K.cmp → (p q : K → Bool) (z : ZSet K K.cmp) → keep p (keep q z) ≡ keep (λ k. p k && q k) z }
     ensures all { IsAntisymmetric K.cmp → (z : ZSet K K.cmp) → keep (λ _. true) z ≡ z }
@@ -42,8 +45,9 @@ pub fn tests_follow_each_other<K: Ord>()
     ensures same { IsAntisymmetric K.cmp → (p q : K → Bool) → ((k : K) → p k ≡ q k) → (z : ZSet K K.cmp) → keep p z ≡ keep q z }
 {}
 
-/// The weights of the distinct Z-set; it is the same where each weight is 0 or 1, so a second time it changes nothing,
+/// The weights of the distinct Z-set; it is the same if each weight is 0 or 1, so a second time it changes nothing,
 /// and a test may come before or after.
+/// In short: `distinct(z)(k) = [z(k) > 0]`.
 pub fn distinct_weights<K: Ord>()
     ensures weights { (k : K) (z : ZSet K K.cmp) → weight k (distinct z) ≡ (if int_lt (pos 0) (weight k z) then pos 1 else pos 0) }
     ensures none { IsAntisymmetric K.cmp → distinct (zero K.cmp) ≡ zero K.cmp }
@@ -54,12 +58,15 @@ pub fn distinct_weights<K: Ord>()
 
 /// The change of the distinct Z-set is found at the keys of the change.
 pub fn distinct_changes<K: Ord>()
-    ensures { IsAntisymmetric K.cmp → (z d : ZSet K K.cmp) → minus (distinct (plus z d)) (distinct z) ≡ from_pairs K.cmp (map (λ e. (e.0, (if int_lt (pos 0) (weight e.0 z +ℤ e.1) then pos 1 else pos 0) -ℤ (if int_lt (pos 0) (weight e.0 z) then pos 1 else pos 0))) (entries d)) }
+    ensures { IsAntisymmetric K.cmp → (z d : ZSet K K.cmp) → minus (distinct (plus z d)) (distinct z)
+        ≡ from_pairs K.cmp (map (λ e. (e.0, (if int_lt (pos 0) (weight e.0 z +ℤ e.1) then pos 1 else pos 0) -ℤ (if int_lt (pos 0) (weight e.0 z) then pos 1 else pos 0))) (entries d)) }
 {}
 
 /// The total of an image, of a product and of the keys that pass a test.
 pub fn totals_of_operators<J: Ord, K: Ord, L: Ord>()
     ensures image { IsAntisymmetric K.cmp → IsAntisymmetric L.cmp → (f : K → List L) (z : ZSet K K.cmp) → total (image L.cmp f z) ≡ lin integers (λ k. pos (length (f k))) z }
     ensures test { IsAntisymmetric K.cmp → (p : K → Bool) (z : ZSet K K.cmp) → total (keep p z) ≡ lin integers (λ k. if p k then pos 1 else pos 0) z }
-    ensures product { IsAntisymmetric J.cmp → IsAntisymmetric K.cmp → IsAntisymmetric L.cmp → (f : J → K → List L) (y : ZSet J J.cmp) (z : ZSet K K.cmp) → total (product L.cmp f y z) ≡ lin integers (λ j. lin integers (λ k. pos (length (f j k))) z) y }
+    ensures product { IsAntisymmetric J.cmp → IsAntisymmetric K.cmp → IsAntisymmetric L.cmp
+        → (f : J → K → List L) (y : ZSet J J.cmp) (z : ZSet K K.cmp) → total (product L.cmp f y z)
+        ≡ lin integers (λ j. lin integers (λ k. pos (length (f j k))) z) y }
 {}

@@ -9,7 +9,7 @@ use sq_value::{NoMemory, Row};
 use sq_zset::ZSet;
 use std::alloc::Global;
 
-/// Each row with a weight above 0, with the weight 1; or `NoMemory` where memory runs out.
+/// Each row with a weight above 0, with the weight 1; or `NoMemory` when memory runs out.
 pub fn distinct_whole(alloc: Global, z: &ZSet) -> Result<ZSet, NoMemory>
     ensures ok { IfOk result (λ answer. answer ≡ distinct z.now) }
     ensures in_range { IfOk result IsInRange }
@@ -31,7 +31,7 @@ fn rows_above_zero(alloc: Global, z: &ZSet) -> Result<Vec<Row>, NoMemory>
     Ok(rows)
 }
 
-// Puts a copy of the row behind the rows, where its weight is above 0.
+// Puts a copy of the row behind the rows, if its weight is above 0.
 fn push_above_zero(
     alloc: Global,
     row: &Row,

@@ -17,9 +17,9 @@ use std::alloc::Global;
 
 /// The operator on a Z-set: the images of each row, with its weight. The weights of equal images add up.
 ///
-/// Each row is of kinds that suit the operator. The answer is `Value` exactly where an item of some row lies outside the
-/// range of BIGINT, with the first such number of the first such row in the order of rows; else `Weight` exactly where the
-/// weight of some row of the answer lies outside the range of a weight, with that of the first such row; and `Memory` where
+/// Each row is of kinds that suit the operator. The answer is `Value` exactly if an item of some row lies outside the
+/// range of BIGINT, with the first such number of the first such row in the order of rows; else `Weight` exactly if the
+/// weight of some row of the answer lies outside the range of a weight, with that of the first such row; and `Memory` when
 /// memory runs out.
 pub fn apply_linear<O: Linear>(alloc: Global, op: &O, z: &ZSet) -> Result<ZSet, LinearFault>
     requires { FitsRows (O.suits op.now) z.now }

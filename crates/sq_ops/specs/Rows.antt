@@ -1,20 +1,14 @@
 -- What the linear operators make of a row.
 --     kept c row, items_of es row, padded n row      the images under Keep, and the one image under Project and under Pad
 --     numbers_of es row      the numbers among the items.      holds c row      whether a condition is True
-use Rattle.std.specs.Prelude.{ℕ, ℤ, Bool, true, false, if◌then◌else◌, List, [], ◌∷◌, ◌++◌, map, replicate}
+use Rattle.std.specs.Prelude.{ℕ, ℤ, Bool, if◌then◌else◌, List, [], ◌∷◌, ◌++◌, map, replicate}
 use Rattle.std.specs.List.{flat_map}
-use Rattle.sq_value.specs.declared.tri.Tri.{Tri}
-use Rattle.sq_value.specs.declared.tri.Tri.TheVariants.{False, Unknown, True}
+use Rattle.sq_value.specs.Truth.{is_true}
 use Rattle.sq_value.specs.declared.value.Value.{Value}
 use Rattle.sq_value.specs.declared.value.Value.TheVariants.{Null, Int, Text}
 use Rattle.sq_expr.specs.declared.cond.Cond.{Cond}
 use Rattle.sq_expr.specs.declared.expr.Expr.{Expr}
 use Rattle.sq_expr.specs.Meaning.{num, truth}
-
-abbrev pub is_true : Tri → Bool
-is_true False = false
-is_true Unknown = false
-is_true True = true
 
 -- whether a condition is True on a row
 abbrev pub holds : Cond → List Value → Bool

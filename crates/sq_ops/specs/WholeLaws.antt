@@ -26,14 +26,17 @@ module _ (key : List Value → List Value) (part : List Value → ZSet (List Val
   sum_of_all_parts : (z : ZSet (List Value) row_cmp) → by_key row_cmp key (z_sets row_cmp) part z ≡ sum_of_parts part false key z
   sum_of_all_parts z =
       sym (rows_are_abelian.neutral (by_key row_cmp key (z_sets row_cmp) (beyond_none part) z)
-      ∙ by_key_agree row_cmp row_cmp key (z_sets row_cmp) (beyond_none part) part (λ c y. ap (λ none. (z_sets row_cmp).plus (part c y) ((z_sets row_cmp).negate none)) (nothing c) ∙ minus-zero (z_sets row_cmp) rows_are_abelian (part c y)) z)
+      ∙ by_key_agree row_cmp row_cmp key (z_sets row_cmp) (beyond_none part) part
+      (λ c y. ap (λ none. (z_sets row_cmp).plus (part c y) ((z_sets row_cmp).negate none)) (nothing c) ∙ minus-zero (z_sets row_cmp) rows_are_abelian (part c y)) z)
 
 -- ---- distinct
 pub distinct_is_nothing_for_none : IsNothingForNone (distinct_part row_cmp row_cmp-total row_cmp-antisymmetric) false
 distinct_is_nothing_for_none c e = distinct_part-zero row_cmp row_cmp-total row_cmp-antisymmetric c
 
 pub distinct_adds_up : (z : ZSet (List Value) row_cmp) → distinct z ≡ sum_of_parts (distinct_part row_cmp row_cmp-total row_cmp-antisymmetric) false (λ row. row) z
-distinct_adds_up z = distinct_by_key row_cmp row_cmp-total row_cmp-antisymmetric z ∙ sum_of_all_parts (λ row. row) (distinct_part row_cmp row_cmp-total row_cmp-antisymmetric) (distinct_part-zero row_cmp row_cmp-total row_cmp-antisymmetric) z
+distinct_adds_up z =
+    distinct_by_key row_cmp row_cmp-total row_cmp-antisymmetric z
+    ∙ sum_of_all_parts (λ row. row) (distinct_part row_cmp row_cmp-total row_cmp-antisymmetric) (distinct_part-zero row_cmp row_cmp-total row_cmp-antisymmetric) z
 
 -- ---- aggregates
 module _ (stands : Bool) (calls : List Call) where
@@ -66,7 +69,8 @@ module _ (key : List Value → List Value) (calls : List Call) (z : ZSet (List V
       ] refl
     where
       some : 1 ≤ count row_cmp (get_or (keys_of row_cmp key z) i d) (keys_of row_cmp key z)
-      some = subst (λ cs. 1 ≤ count row_cmp (get_or (keys_of row_cmp key z) i d) cs) (map-id (keys_of row_cmp key z)) (count-member row_cmp row_cmp-total row_cmp-antisymmetric row_cmp row_cmp-total row_cmp-antisymmetric key (λ c. c) (keys_of row_cmp key z) i d low)
+      some = subst (λ cs. 1 ≤ count row_cmp (get_or (keys_of row_cmp key z) i d) cs) (map-id (keys_of row_cmp key z))
+          (count-member row_cmp row_cmp-total row_cmp-antisymmetric row_cmp row_cmp-total row_cmp-antisymmetric key (λ c. c) (keys_of row_cmp key z) i d low)
 
       never : count row_cmp (get_or (keys_of row_cmp key z) i d) (keys_of row_cmp key z) ≡ 0 → ⊥
       never e = let more = some in absurd (omega arith)
@@ -95,7 +99,8 @@ module _ (calls : List Call) (z : ZSet (List Value) row_cmp) where
   one_group =
       ap (λ y. of_list row_cmp (group_row calls [] y ∷ [])) all_rows
       ∙ sym (ap (plus (part_of true calls [] (zero row_cmp)))
-      (by_key_over row_cmp row_cmp-total row_cmp-antisymmetric row_cmp row_cmp-total row_cmp-antisymmetric (columns_of []) (z_sets row_cmp) rows_are_abelian (beyond_none (part_of true calls)) nothing_beyond ([] ∷ []) z (λ i d low. refl)
+      (by_key_over row_cmp row_cmp-total row_cmp-antisymmetric row_cmp row_cmp-total row_cmp-antisymmetric (columns_of [])
+      (z_sets row_cmp) rows_are_abelian (beyond_none (part_of true calls)) nothing_beyond ([] ∷ []) z (λ i d low. refl)
       ∙ neutral_right (z_sets row_cmp) rows_are_abelian (beyond_none (part_of true calls) [] (at_key row_cmp (columns_of []) [] z))
       ∙ ap (beyond_none (part_of true calls) []) all_rows)
       ∙ plus-minus_back (z_sets row_cmp) rows_are_abelian (part_of true calls [] (zero row_cmp)) (part_of true calls [] z)
@@ -103,7 +108,8 @@ module _ (calls : List Call) (z : ZSet (List Value) row_cmp) where
 
 pub aggregates_add_up : (spec : AggSpec) (z : ZSet (List Value) row_cmp) → aggregated spec z ≡ sum_of_parts (part_of spec.global spec.calls) spec.global (group_of spec) z
 aggregates_add_up spec z =
-    elim (spec.global) as (λ b. of_list row_cmp (map (λ c. group_row spec.calls c (at_key row_cmp (columns_of (if b then [] else spec.group)) c z)) (if b then [] ∷ [] else keys_of row_cmp (columns_of (if b then [] else spec.group)) z))
+    elim (spec.global) as (λ b. of_list row_cmp (map (λ c. group_row spec.calls c (at_key row_cmp (columns_of (if b then [] else spec.group)) c z))
+    (if b then [] ∷ [] else keys_of row_cmp (columns_of (if b then [] else spec.group)) z))
     ≡ sum_of_parts (part_of b spec.calls) b (columns_of (if b then [] else spec.group)) z) [
       | true ↦ one_group spec.calls z
       | false ↦

@@ -86,8 +86,8 @@ impl AggSpec {
 
     /// The row of the group with the key, whose rows are `z`, without negative weights and with a total of at most 2^61.
     ///
-    /// The answer is `Sum` exactly where a SUM lies outside the range of BIGINT, with the key and the first such sum, and
-    /// `Memory` where memory runs out.
+    /// The answer is `Sum` exactly if a SUM lies outside the range of BIGINT, with the key and the first such sum, and
+    /// `Memory` when memory runs out.
     pub fn row_of_group(&self, alloc: Global, key: &Row, z: &ZSet) -> Result<Row, WholeFault>
         requires fits { FitsRows (SuitsSpec self.now) z.now }
         requires not_negative { IsNonNegative z.now }
@@ -244,7 +244,7 @@ fn call_values(alloc: Global, calls: &[Call], z: &ZSet) -> Result<Vec<Value>, Op
     Ok(values)
 }
 
-// The value of a call over the rows of a group, or its SUM where that is outside the range of BIGINT.
+// The value of a call over the rows of a group, or its SUM if that is outside the range of BIGINT.
 fn value_of_call(alloc: Global, call: &Call, z: &ZSet) -> Result<Value, OpFault>
     requires { IsMeasurable z.now }
     ensures ok { IfOk result (λ value. value ≡ call_value call.now.func call.now.arg z.now) }

@@ -4,7 +4,7 @@ ghost use Rattle.std.specs.Prelude.{◌≡◌, IfOk};
 use sq_value::{NoMemory, Row, Value};
 use std::alloc::Global;
 
-/// The values of the row, in their order, or `NoMemory` where memory runs out.
+/// The values of the row, in their order, or `NoMemory` when memory runs out.
 pub fn copy_values(alloc: Global, row: &Row) -> Result<Vec<Value>, NoMemory>
     ensures equal { IfOk result (λ values. values.items ≡ row.now) }
 {

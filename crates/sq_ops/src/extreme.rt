@@ -8,7 +8,7 @@ use sq_value::{NoMemory, Row, Value};
 use sq_zset::ZSet;
 use std::alloc::Global;
 
-/// The least value in the column, NULL where there is none.
+/// The least value in the column, NULL if there is none.
 pub fn least_in(alloc: Global, z: &ZSet, column: u32) -> Result<Value, NoMemory>
     ensures { IfOk result (λ value. value ≡ fold lesser Null (values_in column z.now)) }
 {
@@ -22,7 +22,7 @@ pub fn least_in(alloc: Global, z: &ZSet, column: u32) -> Result<Value, NoMemory>
     Ok(copy)
 }
 
-/// The greatest value in the column, NULL where there is none.
+/// The greatest value in the column, NULL if there is none.
 pub fn greatest_in(alloc: Global, z: &ZSet, column: u32) -> Result<Value, NoMemory>
     ensures { IfOk result (λ value. value ≡ fold greater Null (values_in column z.now)) }
 {
@@ -36,7 +36,7 @@ pub fn greatest_in(alloc: Global, z: &ZSet, column: u32) -> Result<Value, NoMemo
     Ok(copy)
 }
 
-// The value in the column; NULL where the row has no such column.
+// The value in the column; NULL if the row has no such column.
 fn value_at<'a>(row: &'a Row, column: u32, null: &'a Value) -> &'a Value
     requires { null.now ≡ Null }
     ensures { result.now ≡ column_of row.now column }
@@ -53,7 +53,8 @@ fn is_null(value: &Value) -> bool
 {
     match value {
         Value::Null => true,
-        _ => false,
+        Value::Int(_) => false,
+        Value::Text(_) => false,
     }
 }
 

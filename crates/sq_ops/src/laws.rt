@@ -42,8 +42,8 @@ pub fn keeping_is_a_test()
     ensures { (op : Keeping) (z : ZSet (List Datum) row_cmp) → image row_cmp (⟦<Keep as Linear>⟧.images op) z ≡ keep (holds op.cond) z }
 {}
 
-/// No number of a list lies outside the range of BIGINT exactly where each fits 64 bits with a sign; and none of a row's
-/// items does exactly where each of them can be stored.
+/// No number of a list lies outside the range of BIGINT exactly if each fits 64 bits with a sign; and none of a row's
+/// items does exactly if each of them can be stored.
 pub fn numbers_in_range()
     ensures numbers { (ns : List ℤ) → (first_not_bigint ns ≡ None) ↔ AllByRecursion (FitsSigned w64) ns }
     ensures items { (es : List Expression) (row : List Datum) → (first_not_bigint (numbers_of es row) ≡ None) ↔ AllByRecursion IsStorable (items_of es row) }
@@ -54,7 +54,7 @@ pub fn rows_of_kinds_fit<O: Linear>()
     ensures { (op : O) (kinds : List ColumnKind) (z : ZSet (List Datum) row_cmp) → O.suits op kinds → All (λ e. AreOfKinds e.0 kinds) (entries z) → FitsRows (O.suits op) z }
 {}
 
-/// No number that is tested of the rows of a Z-set lies outside the range of BIGINT exactly where none of any row does.
+/// No number that is tested of the rows of a Z-set lies outside the range of BIGINT exactly if none of any row does.
 pub fn values_of_each_row()
     ensures { (tested : List Datum → List ℤ) (z : ZSet (List Datum) row_cmp) → (first_value_outside tested z ≡ None) ↔ All (λ e. first_not_bigint (tested e.0) ≡ None) (entries z) }
 {}

@@ -1,6 +1,7 @@
 //! Operators on Z-sets of rows (DBSP, PVLDB 16(7), 2023), each given by what it makes of single rows.
 //!
-//! One trait for each way in which an operator extends from rows to Z-sets. A linear operator gives images of a row.
+//! One trait for each way in which an operator extends from rows to Z-sets: `Linear` gives images of a row, `Bilinear` joins
+//! rows, and `Whole` works key by key.
 #![tactic(auto)]
 
 mod aggregate;

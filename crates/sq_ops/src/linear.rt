@@ -35,8 +35,8 @@ pub trait Linear {
 
     /// Appends the images of the row to `to`. The row is of kinds that suit the operator.
     ///
-    /// The answer is `Value` exactly where an item of the row lies outside the range of BIGINT, with the first such number,
-    /// and `Memory` where memory runs out. After a refusal `to` is as before.
+    /// The answer is `Value` exactly if an item of the row lies outside the range of BIGINT, with the first such number,
+    /// and `Memory` when memory runs out. After a refusal `to` is as before.
     fn image(&self, alloc: Global, row: &Row, to: &mut Vec<Row>) -> Result<(), OpFault>
         requires { FitsRow (suits self.now) row.now }
         ensures ok { OnOk result (to.new.items ≡ to.old.items ++ images self.now row.now) }
@@ -61,6 +61,13 @@ impl Keep {
     {
         let cond = self.cond.clone_cond(alloc)?;
         Ok(Keep { cond })
+    }
+
+    /// Whether another operator is the same. Takes no memory.
+    pub fn is_same(&self, other: &Keep) -> bool
+        ensures { IsTrue result ↔ (self.now ≡ other.now) }
+    {
+        self.cond.is_same(&other.cond)
     }
 }
 

@@ -75,7 +75,7 @@ fn factor(row: &Row, measure: Measure, column: u32) -> i64
     }
 }
 
-// The number in the column, and 0 where there is none.
+// The number in the column, and 0 if there is none.
 fn number(row: &Row, column: u32) -> i64
     ensures { result ≡ number_at column row.now }
 {
@@ -85,6 +85,7 @@ fn number(row: &Row, column: u32) -> i64
     }
     match row.at(place) {
         Value::Int(number) => *number,
-        _ => 0,
+        Value::Null => 0,
+        Value::Text(_) => 0,
     }
 }

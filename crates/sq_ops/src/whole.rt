@@ -48,7 +48,7 @@ impl<T: Drop> From<AllocFailed<T>> for WholeFault {
 }
 
 /// An operator that works key by key: the rows with one key give a part of the answer, and the parts add up. A part over
-/// no rows is empty, but for the key without values where that stands.
+/// no rows is empty, but for the key without values if that stands.
 pub trait Whole {
     ghost use Rattle.std.specs.Prelude.{Bool, List, ℤ};
     ghost use Rattle.sq_algebra.specs.ZSet.{ZSet as Weighted};
@@ -75,7 +75,7 @@ pub trait Whole {
     /// The answer over all rows.
     ghost answers: { Self → Weighted (List Datum) row_cmp → Weighted (List Datum) row_cmp };
 
-    /// The key of the row, or `NoMemory` where memory runs out.
+    /// The key of the row, or `NoMemory` when memory runs out.
     fn key(&self, alloc: Global, row: &Row) -> Result<Row, NoMemory>
         requires { FitsRow (suits self.now) row.now }
         ensures { IfOk result (λ key. key ≡ keys self.now row.now) };
@@ -87,8 +87,8 @@ pub trait Whole {
     /// The part of the key over `z`, whose rows all have this key, without negative weights and with a total of at most
     /// 2^61.
     ///
-    /// The answer is `Sum` exactly where a sum over `z` lies outside the range of BIGINT, with the key and the first such
-    /// sum, and `Memory` where memory runs out.
+    /// The answer is `Sum` exactly if a sum over `z` lies outside the range of BIGINT, with the key and the first such
+    /// sum, and `Memory` when memory runs out.
     fn part(&self, alloc: Global, key: &Row, z: &ZSet) -> Result<ZSet, WholeFault>
         requires fits { FitsRows (suits self.now) z.now }
         requires one_key { All (λ e. keys self.now e.0 ≡ key.now) (entries z.now) }
@@ -102,7 +102,7 @@ pub trait Whole {
     /// The answer is the sum of the parts by key: the standing rows, and what the rows of each key add to them.
     ghost adds_up: { (op : Self) (z : Weighted (List Datum) row_cmp) → answers op z ≡ sum_of_parts (parts op) (stands op) (keys op) z };
 
-    /// A part over no rows is empty, but for the key without values where that stands.
+    /// A part over no rows is empty, but for the key without values if that stands.
     ghost nothing_for_none: { (op : Self) → IsNothingForNone (parts op) (stands op) };
 }
 

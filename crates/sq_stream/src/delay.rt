@@ -45,7 +45,7 @@ impl Delay {
         }
     }
 
-    /// Answers the state, and keeps `z` as its state, or is refused with the state as before where memory runs out. The
+    /// Answers the state, and keeps `z` as its state, or is refused with the state as before when memory runs out. The
     /// cost is linear in the size of `z`.
     pub fn step(&mut self, alloc: Global, z: &ZSet) -> Result<ZSet, NoMemory>
         ensures step { IfOk result (λ answer. (answer, self.new) ≡ delay_step self.old z.now) }

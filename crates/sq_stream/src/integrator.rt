@@ -43,8 +43,8 @@ impl Integrator {
 
     /// Answers the state plus `z`, and keeps the answer as its state. The cost is linear in the sizes of the two.
     ///
-    /// The answer is `Weight` exactly where a weight of that sum lies outside the range, with the first such weight in the
-    /// order of rows, and `Memory` where memory runs out. Then the state is as before.
+    /// The answer is `Weight` exactly if a weight of that sum lies outside the range, with the first such weight in the
+    /// order of rows, and `Memory` when memory runs out. Then the state is as before.
     pub fn step(&mut self, alloc: Global, z: &ZSet) -> Result<ZSet, ZFault>
         ensures step { IfOk result (λ answer. (answer, self.new) ≡ integrator_step (z_sets row_cmp) self.old z.now) }
         ensures in_range { IfOk result IsInRange }

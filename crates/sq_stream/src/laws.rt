@@ -40,12 +40,16 @@ pub fn chain_rule<P: Operator, Q: Operator>()
 
 /// The sum rule: the incremental version of a sum, taken member by member, is the sum of the incremental versions.
 pub fn sum_rule<P: Operator, Q: Operator>()
-    ensures { (s : List (ZSet (List Datum) row_cmp)) → incremental (z_sets row_cmp) (λ t. pointwise_sum (z_sets row_cmp) (P.meaning t) (Q.meaning t)) s ≡ pointwise_sum (z_sets row_cmp) (incremental (z_sets row_cmp) P.meaning s) (incremental (z_sets row_cmp) Q.meaning s) }
+    ensures { (s : List (ZSet (List Datum) row_cmp))
+        → incremental (z_sets row_cmp) (λ t. pointwise_sum (z_sets row_cmp) (P.meaning t) (Q.meaning t)) s
+        ≡ pointwise_sum (z_sets row_cmp) (incremental (z_sets row_cmp) P.meaning s) (incremental (z_sets row_cmp) Q.meaning s) }
 {}
 
 /// An operator that takes an additive function to each member is its own incremental version.
 pub fn linear_operators_are_incremental<Q: Operator>()
-    ensures { (f : ZSet (List Datum) row_cmp → ZSet (List Datum) row_cmp) → IsAdditive (z_sets row_cmp) (z_sets row_cmp) f → ((s : List (ZSet (List Datum) row_cmp)) → Q.meaning s ≡ lifted f s) → (s : List (ZSet (List Datum) row_cmp)) → incremental (z_sets row_cmp) Q.meaning s ≡ Q.meaning s }
+    ensures { (f : ZSet (List Datum) row_cmp → ZSet (List Datum) row_cmp) → IsAdditive (z_sets row_cmp) (z_sets row_cmp) f
+        → ((s : List (ZSet (List Datum) row_cmp)) → Q.meaning s ≡ lifted f s) → (s : List (ZSet (List Datum) row_cmp))
+        → incremental (z_sets row_cmp) Q.meaning s ≡ Q.meaning s }
 {}
 
 fn is_send_and_sync<T: Send + Sync>() {}

@@ -1,11 +1,14 @@
 //! Copies of operators, and the entries that a Z-set hands over.
 
 use crate::aggregates::by_first;
+use crate::joins::both_columns;
 use crate::rows::{row_of, zset_of};
 use sq_expr::{Cond, Expr, Func};
 use sq_ops::{Distinct, Keep, Pad, Pairing, Project};
 use sq_zset::ZSet;
 use sqlite_items::Items;
+use std::alloc::Global;
+use std::process::Abort;
 use std::test::Fail;
 
 #[test]
@@ -19,38 +22,54 @@ fn a_copied_aggregate_is_the_same(rt: HostRuntime) -> Result<(), Fail> {
     Ok(())
 }
 
+// A copy of the projection is the same.
+fn check_project(rt: &impl Abort, alloc: Global, project: &Project) -> Result<(), Fail> {
+    let copy = project.clone_project(alloc)?;
+    assert!(rt; copy.is_same(project));
+    Ok(())
+}
+
 #[test]
 fn a_copied_projection_is_the_same(rt: HostRuntime) -> Result<(), Fail> {
     let alloc = rt.alloc();
     let mut items = Items::new(alloc);
     items.push(Expr::Column(1))?;
-    let project = Project { items };
-    let copy = project.clone_project(alloc)?;
-    assert!(&rt; copy.is_same(&project));
+    check_project(&rt, alloc, &Project { items })
+}
+
+#[test]
+fn operators_without_lists_are_compared(rt: HostRuntime) {
     assert!(&rt; Pad { nulls: 2 }.is_same(&Pad { nulls: 2 }));
     assert!(&rt; !Pad { nulls: 2 }.is_same(&Pad { nulls: 3 }));
     assert!(&rt; Distinct.is_same(&Distinct));
+}
+
+// A copy of the test is the same.
+fn check_keep(rt: &impl Abort, alloc: Global, keep: &Keep) -> Result<(), Fail> {
+    let copy = keep.clone_keep(alloc)?;
+    assert!(rt; copy.is_same(keep));
     Ok(())
 }
 
 #[test]
-fn a_test_and_a_pairing_are_copied(rt: HostRuntime) -> Result<(), Fail> {
+fn a_copied_test_is_the_same(rt: HostRuntime) -> Result<(), Fail> {
     let alloc = rt.alloc();
-    let keep = Keep {
-        cond: Cond::All(Items::new(alloc)),
-    };
-    let copy = keep.clone_keep(alloc)?;
-    assert!(&rt; matches!(copy.cond, Cond::All(_)));
-    let pairing = Pairing {
-        left: Items::from_slice(alloc, &[0])?,
-        right: Items::from_slice(alloc, &[1])?,
-        nulls_match: true,
-        keep: copy.cond,
-        items: Items::from_slice(alloc, &[0, 1])?,
-    };
-    let same = pairing.clone_pairing(alloc)?;
-    assert!(&rt; same.items.as_slice() == [0, 1].as_slice());
+    let cond = Cond::All(Items::new(alloc));
+    check_keep(&rt, alloc, &Keep { cond })
+}
+
+// A copy of the pairing is the same.
+fn check_pairing(rt: &impl Abort, alloc: Global, pairing: &Pairing) -> Result<(), Fail> {
+    let copy = pairing.clone_pairing(alloc)?;
+    assert!(rt; copy.is_same(pairing));
     Ok(())
+}
+
+#[test]
+fn a_copied_pairing_is_the_same(rt: HostRuntime) -> Result<(), Fail> {
+    let alloc = rt.alloc();
+    let pairing = both_columns(alloc, true)?;
+    check_pairing(&rt, alloc, &pairing)
 }
 
 #[test]

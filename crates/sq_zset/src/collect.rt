@@ -12,7 +12,7 @@ use crate::{Pair, ZFault};
 use sq_value::{NoMemory, Row};
 use std::alloc::Global;
 
-/// Takes the sum of `row` off the end of a list that descends. It is 0 where another row stands at the end.
+/// Takes the sum of `row` off the end of a list that descends. It is 0 if another row stands at the end.
 fn take_sum(sums: &mut Vec<(Row, i128)>, row: &Row) -> i128
     ensures sum { result ≡ first_weight row.now (reverse sums.old.items) }
     ensures rest { reverse sums.new.items ≡ without_first row.now (reverse sums.old.items) }

@@ -26,8 +26,8 @@ pub trait Group: Drop + Sized {
 
     /// The sum of two values in the range.
     ///
-    /// The answer is `Weight` exactly where a number of the sum lies outside its range, with the first such number, and
-    /// `Memory` where memory runs out.
+    /// The answer is `Weight` exactly if a number of the sum lies outside its range, with the first such number, and
+    /// `Memory` when memory runs out.
     fn plus(&self, alloc: Global, other: &Self) -> Result<Self, ZFault>
         requires self_in_range { first_outside self.now ≡ None }
         requires other_in_range { first_outside other.now ≡ None }
@@ -35,13 +35,13 @@ pub trait Group: Drop + Sized {
         ensures in_range { IfOk result (λ sum. first_outside sum ≡ None) }
         ensures outside { (number : ℤ) → result ≡ Err (ZFault.Weight number) → first_outside (addition.plus self.now other.now) ≡ Some number };
 
-    /// The negation of a value in the range, or `NoMemory` where memory runs out.
+    /// The negation of a value in the range, or `NoMemory` when memory runs out.
     fn negate(&self, alloc: Global) -> Result<Self, NoMemory>
         requires self_in_range { first_outside self.now ≡ None }
         ensures ok { IfOk result (λ negation. negation ≡ addition.negate self.now) }
         ensures in_range { IfOk result (λ negation. first_outside negation ≡ None) };
 
-    /// A value of its own, equal to this one in the range, or `NoMemory` where memory runs out.
+    /// A value of its own, equal to this one in the range, or `NoMemory` when memory runs out.
     fn clone_group(&self, alloc: Global) -> Result<Self, NoMemory>
         requires self_in_range { first_outside self.now ≡ None }
         ensures ok { IfOk result (λ copy. copy ≡ self.now) }

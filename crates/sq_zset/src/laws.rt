@@ -72,7 +72,8 @@ pub fn operators_on_rows_follow_lists()
     ensures joined { (rows more : List (List Datum)) → of_list row_cmp (rows ++ more) ≡ plus (of_list row_cmp rows) (of_list row_cmp more) }
     ensures image { (f : List Datum → List (List Datum)) (rows : List (List Datum)) → image row_cmp f (of_list row_cmp rows) ≡ of_list row_cmp (flat_map f rows) }
     ensures test { (p : List Datum → Bool) (rows : List (List Datum)) → keep p (of_list row_cmp rows) ≡ of_list row_cmp (filter p rows) }
-    ensures product { (f : List Datum → List Datum → List (List Datum)) (rows others : List (List Datum)) → product row_cmp f (of_list row_cmp rows) (of_list row_cmp others) ≡ of_list row_cmp (flat_map (λ row. flat_map (f row) others) rows) }
+    ensures product { (f : List Datum → List Datum → List (List Datum)) (rows others : List (List Datum))
+        → product row_cmp f (of_list row_cmp rows) (of_list row_cmp others) ≡ of_list row_cmp (flat_map (λ row. flat_map (f row) others) rows) }
     ensures distinct { (rows : List (List Datum)) → distinct (of_list row_cmp rows) ≡ of_list row_cmp (first_of_each row_cmp rows) }
     ensures among { (rows others : List (List Datum)) → of_list row_cmp (among row_cmp rows others) ≡ meet (of_list row_cmp rows) (distinct (of_list row_cmp others)) }
     ensures without { (rows others : List (List Datum)) → of_list row_cmp (without row_cmp rows others) ≡ minus (of_list row_cmp rows) (meet (of_list row_cmp rows) (distinct (of_list row_cmp others))) }

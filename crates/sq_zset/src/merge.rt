@@ -1,6 +1,5 @@
 //! Entries of two Z-sets into those of their sum or difference, by one merge; and copies of entries.
 ghost use Rattle.std.specs.Prelude.{◌≡◌, ◌++◌, ◌≤◌, ◌^◌, [], ℤ, false, unsigned_abs, IsTrue, IfOk, OnOk, OnErr, IfErr, Some, None, MatchOption};
-ghost use Rattle.sq_value.specs.Order.{row_cmp};
 ghost use Rattle.sq_algebra.specs.ZSet.{in_front};
 ghost use Rattle.sq_zset.specs.Inside.{IsSound};
 ghost use Rattle.sq_zset.specs.Merge.{first_rows_cmp, BeginsWith, signed, signed_entries, merged};

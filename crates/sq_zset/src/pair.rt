@@ -5,7 +5,7 @@ ghost use Rattle.sq_zset.specs.declared.pair.ZFault.TheVariants.{Memory, Weight}
 use sq_value::{NoMemory, Row};
 use std::alloc::{AllocError, AllocFailed};
 
-/// A row and a whole number: that many copies of the row, or, where it is negative, that many fewer.
+/// A row and a whole number: that many copies of the row, or, if it is negative, that many fewer.
 ///
 /// Pairs are ordered by their rows, and then by their weights.
 #[derive(Debug, Drop, PartialEq, Eq, PartialOrd, Ord)]

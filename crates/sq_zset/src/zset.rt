@@ -52,8 +52,8 @@ impl ZSet {
 
     /// The Z-set in which each row has the sum of the weights of its pairs.
     ///
-    /// The absolute weights of the pairs add up to at most 2^126. The answer is `Weight` exactly where the sum for some row
-    /// lies outside the range of a weight, and `Memory` where memory runs out.
+    /// The absolute weights of the pairs add up to at most 2^126. The answer is `Weight` exactly if the sum for some row
+    /// lies outside the range of a weight, and `Memory` when memory runs out.
     pub fn consolidate(alloc: Global, pairs: Vec<Pair>) -> Result<ZSet, ZFault>
         requires { mass pairs.items ≤ 2 ^ 126 }
         ensures ok { IfOk result (λ z. z ≡ from_pairs row_cmp (weighted_rows pairs.items)) }
@@ -129,7 +129,7 @@ impl ZSet {
         sum
     }
 
-    /// The weight of a row, 0 where it has none. Takes no memory.
+    /// The weight of a row, 0 if it has none. Takes no memory.
     pub fn weight_of(&self, row: &Row) -> i64
         ensures weight { result ≡ weight row.now self.now }
         ensures in_range { unsigned_abs result ≤ 2 ^ 62 }
@@ -142,7 +142,7 @@ impl ZSet {
 
     /// The weights of `self` and of `other` added up, row by row, by one merge that copies the rows of the answer alone.
     ///
-    /// The answer is `Weight` exactly where some sum lies outside the range of a weight, and `Memory` where memory runs out.
+    /// The answer is `Weight` exactly if some sum lies outside the range of a weight, and `Memory` when memory runs out.
     pub fn plus(&self, alloc: Global, other: &ZSet) -> Result<ZSet, ZFault>
         ensures ok { IfOk result (λ z. z ≡ plus self.now other.now) }
         ensures in_range { IfOk result IsInRange }
@@ -154,7 +154,7 @@ impl ZSet {
 
     /// The weights of `self` less those of `other`, row by row, by one merge that copies the rows of the answer alone.
     ///
-    /// The answer is `Weight` exactly where some difference lies outside the range of a weight, and `Memory` where memory runs out.
+    /// The answer is `Weight` exactly if some difference lies outside the range of a weight, and `Memory` when memory runs out.
     pub fn minus(&self, alloc: Global, other: &ZSet) -> Result<ZSet, ZFault>
         ensures ok { IfOk result (λ z. z ≡ minus self.now other.now) }
         ensures in_range { IfOk result IsInRange }
@@ -164,7 +164,7 @@ impl ZSet {
         Ok(ZSet { entries })
     }
 
-    /// Each weight with the other sign, or `NoMemory` where memory runs out.
+    /// Each weight with the other sign, or `NoMemory` when memory runs out.
     pub fn negate(&self, alloc: Global) -> Result<ZSet, NoMemory>
         ensures ok { IfOk result (λ z. z ≡ negate self.now) }
         ensures in_range { IfOk result IsInRange }
