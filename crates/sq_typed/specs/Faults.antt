@@ -26,6 +26,7 @@ use Rattle.sq_typed.specs.Programs.{catalog_of, table_column}
 use Rattle.sq_typed.specs.Resolved.{Resolved, Parts, no_parts, resolved}
 use Rattle.sq_typed.specs.Scopes.{Text, Scope, repeats, places, number_of, kinds_in}
 use Rattle.sq_typed.specs.Selected.{Scoped, Chosen, Starred, Written, chosen, item_name, having_leaves, is_grouped, keys, call_trees, block_calls, block_columns, group_cond, group_kinds, item_expr, item_kinds}
+use Rattle.sq_typed.specs.declared.limits.TheConstants.{MOST_COLUMNS, MOST_SOURCES, MOST_STATEMENTS}
 use Rattle.sq_typed.specs.declared.check_kind.CheckKind.{CheckKind}
 use Rattle.sq_typed.specs.declared.check_kind.CheckKind.TheVariants.{DuplicateName, UnknownRelation, UnnamedColumn, DuplicateColumn, UnknownColumn, AmbiguousColumn, NestedAggregate, NotGrouped, ColumnCount, TypeMismatch, TooWide, Limit}
 
@@ -148,7 +149,7 @@ mixes_sorts (cs ∷ css) = list_any (differ_in_sort cs) css
 -- ---- the kinds of faults
 
 abbrev pub has_long_list : Scoped → Bool
-has_long_list b = nat_lt 64 (length (chosen b)) || nat_lt 16 (length b.scope)
+has_long_list b = nat_lt MOST_COLUMNS (length (chosen b)) || nat_lt MOST_SOURCES (length b.scope)
 
 -- whether a statement has what a kind of fault is about, behind so many statements that created these relations. A statement's
 -- faults are those of these kinds that stand before all others that it has
@@ -164,7 +165,7 @@ has relations before s NotGrouped = list_any has_bare_column s.parts.blocks
 has relations before s ColumnCount = list_any differ_in_count s.parts.operations
 has relations before s TypeMismatch = list_any has_mixed_types s.parts.blocks || list_any mixes_sorts s.parts.operations
 has relations before s TooWide = list_any has_wide_expr s.parts.blocks
-has relations before s Limit = nat_le 256 before || nat_lt 64 (length s.columns) || list_any has_long_list s.parts.blocks
+has relations before s Limit = nat_le MOST_STATEMENTS before || nat_lt MOST_COLUMNS (length s.columns) || list_any has_long_list s.parts.blocks
 
 -- their order
 abbrev pub kinds_in_order : List CheckKind

@@ -1,3 +1,4 @@
+//! The kinds of faults for which a statement is refused.
 /// Why a statement is refused, in the order in which the kinds are looked for.
 ///
 /// Each is told of a statement that has none of the kinds before it.
@@ -26,7 +27,7 @@ pub enum CheckKind {
     TypeMismatch,
     /// The static bound of an expression is above 2^127 - 1.
     TooWide,
-    /// It is the 257th statement or a later one; or it has a table, a select list or a view of more than 64 columns, or
-    /// a `FROM` of more than 16 sources.
+    /// It stands behind `MOST_STATEMENTS` others; or a table, a select list or a view of it has more than `MOST_COLUMNS`
+    /// columns, or a `FROM` more than `MOST_SOURCES` sources.
     Limit,
 }

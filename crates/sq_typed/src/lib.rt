@@ -7,11 +7,13 @@ pub mod fault_examples;
 pub mod fault_laws;
 pub mod fit_laws;
 pub mod laws;
+mod limits;
 mod program;
 mod query;
 mod update;
 
 pub use check_kind::CheckKind;
+pub use limits::{MOST_COLUMNS, MOST_SOURCES, MOST_STATEMENTS};
 pub use program::Program;
 pub use query::{Block, BlockCall, FromItem, FromJoin, Grouping, Origin, Query, SetStep};
 pub use update::Update;

@@ -1,3 +1,4 @@
+//! A program that was checked: its relations, and the typed query of each view.
 ghost use Rattle.std.specs.Prelude.{◌≡◌, ◌<◌, length, slice_get, Some};
 ghost use Rattle.sq_typed.specs.Checked.{IsChecked};
 

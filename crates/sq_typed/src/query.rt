@@ -1,3 +1,4 @@
+//! Queries in which names are replaced by numbers.
 use sq_ast::SetOp;
 use sq_expr::{Cond, Expr, Func};
 use sqlite_items::{Boxed, Items};

@@ -1,3 +1,4 @@
+//! Changes of a table: rows that are inserted or deleted.
 use sq_value::Row;
 
 /// A change of one row of a table.
