@@ -1,16 +1,5 @@
-pub mod NamesScopes
-pub mod NamesPlaces
-pub mod NamesBuilt
-pub mod NamesReferences
-pub mod NamesTrees
-pub mod NamesTexts
-pub mod TypesTrees
-pub mod TypesLists
 pub mod TypesBlocks
-pub mod TypesCalls
 pub mod TypesFrames
-pub mod TypesStars
-pub mod TypesStarsOnce
 pub mod TypesBare
 pub mod TypesTests
 pub mod TypesBlockLemmas

@@ -94,8 +94,8 @@ pub adds_both : (M N K : Type 0) (a b c : Findings) (all p q : Parts) → AreBot
 adds_both M N K a b c all p q both left right h k = record {
   kinds = λ kind. k.kinds kind ∙ (ap (λ x. x || stands kind q) (h.kinds kind) ∙ (or_assoc (noted kind a) (stands kind p) (stands kind q) ∙ ap (λ x. noted kind a || x) (sym (both.kinds kind))));
   sorts = λ met same.
-      let before : b.counts_differ ≡ false = or_left b.counts_differ (stands ColumnCount q) (sym (k.kinds ColumnCount) ∙ same) in
-      k.sorts (right met) same ∙ (ap (λ x. x || mixes q) (h.sorts (left met) before) ∙ (or_assoc a.sorts_mixed (mixes p) (mixes q) ∙ ap (λ x. a.sorts_mixed || x) (sym both.sorts)));
+      let before : b.column_count ≡ false = or_left b.column_count (stands ColumnCount q) (sym (k.kinds ColumnCount) ∙ same) in
+      k.sorts (right met) same ∙ (ap (λ x. x || mixes q) (h.sorts (left met) before) ∙ (or_assoc a.sort_mismatch (mixes p) (mixes q) ∙ ap (λ x. a.sort_mismatch || x) (sym both.sorts)));
 }
 
 any_more : {A : Type 0} (test : A → Bool) (xs : List A) (x : A) → list_any test (xs ++ x ∷ []) ≡ (list_any test xs || test x)
@@ -122,7 +122,7 @@ adds_before a b c ps p h k = adds_both ⊤ ⊤ ⊤ a b c (together (p ∷ ps)) (
 pub adds_nothing : (M : Type 0) (a : Findings) → Adds M a a no_parts
 adds_nothing M a = record {
   kinds = λ kind. sym (ap (λ b. noted kind a || b) (stands_nowhere kind) ∙ or_false (noted kind a));
-  sorts = λ met same. sym (or_false a.sorts_mixed);
+  sorts = λ met same. sym (or_false a.sort_mismatch);
 }
 
 pub adds_weaker : (M K : Type 0) (a b : Findings) (p : Parts) → (K → M) → Adds M a b p → Adds K a b p
@@ -140,13 +140,13 @@ heads_of js = heads_together (map (λ j. j.source.parts) js) ∙ any_map (λ p. 
 
 -- what the tests of a block answered
 pub adds_block : (f : Findings) (s : Scoped) (unknown ambiguous nested bare mixed wide long : Bool) → unknown ≡ has_unknown_column s → ambiguous ≡ has_ambiguous_column s → nested ≡ has_nested_aggregate s → bare ≡ has_bare_column s → mixed ≡ has_mixed_types s → wide ≡ has_wide_expr s → long ≡ has_long_list s →
-    Adds ⊤ f (record { unknown_column = f.unknown_column || unknown; ambiguous_column = f.ambiguous_column || ambiguous; nested_aggregate = f.nested_aggregate || nested; bare_column = f.bare_column || bare; counts_differ = f.counts_differ; types_mixed = f.types_mixed || mixed; sorts_mixed = f.sorts_mixed; too_wide = f.too_wide || wide; too_long = f.too_long || long }) (one_block s)
-adds_block f s unknown ambiguous nested bare mixed wide long u a n b m w l = record { kinds = by_kind; sorts = λ met same. sym (or_false f.sorts_mixed) }
+    Adds ⊤ f (record { unknown_column = f.unknown_column || unknown; ambiguous_column = f.ambiguous_column || ambiguous; nested_aggregate = f.nested_aggregate || nested; not_grouped = f.not_grouped || bare; column_count = f.column_count; type_mismatch = f.type_mismatch || mixed; sort_mismatch = f.sort_mismatch; too_wide = f.too_wide || wide; limit = f.limit || long }) (one_block s)
+adds_block f s unknown ambiguous nested bare mixed wide long u a n b m w l = record { kinds = by_kind; sorts = λ met same. sym (or_false f.sort_mismatch) }
   where
     one : (a b c : Bool) → b ≡ c → (a || b) ≡ (a || (c || false))
     one a b c is = ap (λ x. a || x) (is ∙ sym (or_false c))
 
-    by_kind : (kind : CheckKind) → noted kind (record { unknown_column = f.unknown_column || unknown; ambiguous_column = f.ambiguous_column || ambiguous; nested_aggregate = f.nested_aggregate || nested; bare_column = f.bare_column || bare; counts_differ = f.counts_differ; types_mixed = f.types_mixed || mixed; sorts_mixed = f.sorts_mixed; too_wide = f.too_wide || wide; too_long = f.too_long || long }) ≡ (noted kind f || stands kind (one_block s))
+    by_kind : (kind : CheckKind) → noted kind (record { unknown_column = f.unknown_column || unknown; ambiguous_column = f.ambiguous_column || ambiguous; nested_aggregate = f.nested_aggregate || nested; not_grouped = f.not_grouped || bare; column_count = f.column_count; type_mismatch = f.type_mismatch || mixed; sort_mismatch = f.sort_mismatch; too_wide = f.too_wide || wide; limit = f.limit || long }) ≡ (noted kind f || stands kind (one_block s))
     by_kind DuplicateName = refl
     by_kind UnknownRelation = refl
     by_kind UnnamedColumn = refl
@@ -154,8 +154,8 @@ adds_block f s unknown ambiguous nested bare mixed wide long u a n b m w l = rec
     by_kind UnknownColumn = one f.unknown_column unknown (has_unknown_column s) u
     by_kind AmbiguousColumn = one f.ambiguous_column ambiguous (has_ambiguous_column s) a
     by_kind NestedAggregate = one f.nested_aggregate nested (has_nested_aggregate s) n
-    by_kind NotGrouped = one f.bare_column bare (has_bare_column s) b
-    by_kind ColumnCount = sym (or_false f.counts_differ)
-    by_kind TypeMismatch = one f.types_mixed mixed (has_mixed_types s) m
+    by_kind NotGrouped = one f.not_grouped bare (has_bare_column s) b
+    by_kind ColumnCount = sym (or_false f.column_count)
+    by_kind TypeMismatch = one f.type_mismatch mixed (has_mixed_types s) m
     by_kind TooWide = one f.too_wide wide (has_wide_expr s) w
-    by_kind Limit = one f.too_long long (has_long_list s) l
+    by_kind Limit = one f.limit long (has_long_list s) l

@@ -32,7 +32,7 @@ use Rattle.sq_check.specs.declared.resolve.Stop.TheVariants.{Repeated}
 use Rattle.sq_check.specs.declared.resolve.Wanted.{Wanted}
 use Rattle.sq_check.specs.declared.resolve.Wanted.TheVariants.{Distinct, Front}
 use Rattle.sq_check.specs.QueriesFound.{noted, stands, one_block, Adds, has_same_columns, given, IsWhole, repeats_among, repeats_in, GivesOf, Gives, operation_parts, GivesAll, SoFar, operand_repeats, block_repeats, GivesBlock, source_repeats, joined_repeats, with_operand, GivesSource, GivesScope}
-use Rattle.sq_check.specs.Scoped.{scoped_by}
+use Rattle.sq_scope.specs.Scoped.{scoped_by}
 use Rattle.sq_check.proofs.QueriesAdded.{or_false, or_comm, any_map, mixes, AreBoth, adds_both, adds_more, adds_before, adds_nothing, adds_weaker, stands_together, stands_nowhere, mixes_together, heads_together, heads_of}
 use Rattle.sq_check.proofs.QueriesJoined.{gives_more}
 use Rattle.sq_check.proofs.QueriesLoops.{StepsSoFar}
@@ -123,7 +123,7 @@ gives_first wanted m before after s h = record {
   differ = alone_differ wanted m ∙ h.differ;
   added = record {
     kinds = λ kind. h.added.kinds kind ∙ ap (λ b. noted kind before || b) (sym (alone_kinds kind m));
-    sorts = λ whole same. h.added.sorts whole same ∙ ap (λ b. before.sorts_mixed || b) (sym (alone_mixes m));
+    sorts = λ whole same. h.added.sorts whole same ∙ ap (λ b. before.sort_mismatch || b) (sym (alone_mixes m));
   };
 }
 
@@ -143,7 +143,7 @@ nowhere TooWide = refl
 nowhere Limit = refl
 
 none_added : (M : Type 0) (f : Findings) → Adds M f f (operation_parts [])
-none_added M f = record { kinds = λ kind. sym (ap (λ b. noted kind f || b) (nowhere kind) ∙ or_false (noted kind f)); sorts = λ met same. sym (or_false f.sorts_mixed) }
+none_added M f = record { kinds = λ kind. sym (ap (λ b. noted kind f || b) (nowhere kind) ∙ or_false (noted kind f)); sorts = λ met same. sym (or_false f.sort_mismatch) }
 
 pub gives_none : (wanted : Wanted) (f : Findings) → GivesAll wanted [] f f (record { columns = []; count = 0 })
 gives_none Distinct f = record { columns = refl; count = refl; differ = refl; added = none_added (IsWhole Distinct []) f }
@@ -276,7 +276,7 @@ module _ (relations : List Relation) where
       (record { named = same; differ = refl; added = adds_relation })
     where
       adds_relation : Adds ⊤ findings findings (record { blocks = []; heads = []; relations = name ∷ []; operations = [] })
-      adds_relation = record { kinds = λ kind. sym (ap (λ b. noted kind findings || b) (nowhere kind) ∙ or_false (noted kind findings)); sorts = λ met same. sym (or_false findings.sorts_mixed) }
+      adds_relation = record { kinds = λ kind. sym (ap (λ b. noted kind findings || b) (nowhere kind) ∙ or_false (noted kind findings)); sorts = λ met same. sym (or_false findings.sort_mismatch) }
         where
           nowhere : (kind : CheckKind) → stands kind (record { blocks = []; heads = []; relations = name ∷ []; operations = [] }) ≡ false
           nowhere DuplicateName = refl

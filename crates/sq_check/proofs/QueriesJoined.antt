@@ -196,11 +196,11 @@ module _ (first : Resolved) (rest : List Resolved) (r : Resolved) where
     noted_after UnknownColumn = sym (or_false mid.unknown_column)
     noted_after AmbiguousColumn = sym (or_false mid.ambiguous_column)
     noted_after NestedAggregate = sym (or_false mid.nested_aggregate)
-    noted_after NotGrouped = sym (or_false mid.bare_column)
-    noted_after ColumnCount = ap (λ b. mid.counts_differ || b) same_test
-    noted_after TypeMismatch = sym (or_false mid.types_mixed)
+    noted_after NotGrouped = sym (or_false mid.not_grouped)
+    noted_after ColumnCount = ap (λ b. mid.column_count || b) same_test
+    noted_after TypeMismatch = sym (or_false mid.type_mismatch)
     noted_after TooWide = sym (or_false mid.too_wide)
-    noted_after Limit = sym (or_false mid.too_long)
+    noted_after Limit = sym (or_false mid.limit)
 
     all_kinds : (kind : CheckKind) → noted kind after ≡ (noted kind start || stands kind (operation_parts (first ∷ (rest ++ r ∷ []))))
     all_kinds kind =
@@ -213,26 +213,26 @@ module _ (first : Resolved) (rest : List Resolved) (r : Resolved) where
         nested true b c d = refl
         nested false b c d = refl
 
-    counts_equal : after.counts_differ ≡ false → length r.columns ≡ length all_columns
-    counts_equal same = sym k.count ∙ ((Decides-eqb other.count s.count).0 (not_not (other.count == s.count) (or_right mid.counts_differ (not (other.count == s.count)) same)) ∙ h.count)
+    counts_equal : after.column_count ≡ false → length r.columns ≡ length all_columns
+    counts_equal same = sym k.count ∙ ((Decides-eqb other.count s.count).0 (not_not (other.count == s.count) (or_right mid.column_count (not (other.count == s.count)) same)) ∙ h.count)
       where
         not_not : (b : Bool) → not b ≡ false → b ≡ true
         not_not true e = refl
         not_not false e = absurd (cc e)
 
-    all_sorts : IsWhole wanted more_columns → after.counts_differ ≡ false → after.sorts_mixed ≡ (start.sorts_mixed || mixes (operation_parts (first ∷ (rest ++ r ∷ []))))
+    all_sorts : IsWhole wanted more_columns → after.column_count ≡ false → after.sort_mismatch ≡ (start.sort_mismatch || mixes (operation_parts (first ∷ (rest ++ r ∷ []))))
     all_sorts whole same =
         let earlier : IsWhole wanted all_columns = whole_alike wanted more_columns all_columns as_long whole in
-        let mid_same : mid.counts_differ ≡ false = or_left mid.counts_differ (not (other.count == s.count)) same in
-        let before_same : before.counts_differ ≡ false = or_left before.counts_differ (stands ColumnCount r.parts) (sym (k.added.kinds ColumnCount) ∙ mid_same) in
+        let mid_same : mid.column_count ≡ false = or_left mid.column_count (not (other.count == s.count)) same in
+        let before_same : before.column_count ≡ false = or_left before.column_count (stands ColumnCount r.parts) (sym (k.added.kinds ColumnCount) ∙ mid_same) in
         let own_columns : s.columns ≡ all_columns = h.columns ∙ given_whole wanted all_columns earlier in
         let fits : length r.columns ≤ length s.columns = omega (arith, counts_equal same, ap length own_columns) in
         let their_columns : other.columns ≡ r.columns = k.columns ∙ given_whole (Front (length s.columns)) r.columns fits in
         let own_mixed : differ_in_sort s.columns other.columns ≡ mixed = (λ i. differ_in_sort (own_columns i) (their_columns i)) ∙ sorts_of_all (columns_of rest) first.columns r.columns in
         (λ i. k.added.sorts fits mid_same i || own_mixed i)
         ∙ (ap (λ b. (b || mixes r.parts) || mixed) (h.added.sorts earlier before_same)
-        ∙ (nested start.sorts_mixed (mixes (operation_parts (first ∷ rest))) (mixes r.parts) mixed
-        ∙ ap (λ b. start.sorts_mixed || b) (sym mixes_more)))
+        ∙ (nested start.sort_mismatch (mixes (operation_parts (first ∷ rest))) (mixes r.parts) mixed
+        ∙ ap (λ b. start.sort_mismatch || b) (sym mixes_more)))
       where
         nested : (a b c d : Bool) → (((a || b) || c) || d) ≡ (a || ((b || c) || d))
         nested true b c d = refl

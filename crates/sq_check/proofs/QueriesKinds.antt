@@ -18,9 +18,10 @@ use Rattle.sq_typed.specs.Resolved.{Resolved, Parts, widened, operation_columns,
 use Rattle.sq_typed.specs.Scopes.{Text, repeats}
 use Rattle.sq_typed.specs.Selected.{Scoped, block_columns}
 use Rattle.sq_typed.specs.declared.check_kind.CheckKind.{CheckKind}
+use Rattle.sq_typed.specs.declared.limits.TheConstants.{MOST_COLUMNS, MOST_STATEMENTS}
 use Rattle.sq_typed.specs.declared.check_kind.CheckKind.TheVariants as kind
 use Rattle.sq_typed.proofs.QueryTrees.{QueryTreeCases, each_query_tree}
-use Rattle.sq_check.specs.NamesFaults.{names_fault}
+use Rattle.sq_scope.specs.NamesFaults.{names_fault}
 use Rattle.sq_check.specs.QueriesFaults.{no_findings, first_noted, later_kinds}
 use Rattle.sq_check.specs.QueriesFound.{noted, stands, has_same_columns, repeats_in, Gives, GivesOf}
 use Rattle.sq_check.specs.declared.findings.Findings.{Findings}
@@ -94,18 +95,18 @@ module _ (relations : List Relation) (before : ℕ) (q : QueryTree) where
   pub repeated_kind : repeats_in Distinct r ≡ true → Some kind.DuplicateColumn ≡ find (has relations before view) later_kinds
   repeated_kind h = ap (λ b. cond b (Some kind.DuplicateColumn) behind) (sym (ap (λ b. b || list_any has_same_columns r.parts.heads) (named_alike relations q) ∙ h))
 
-  pub noted_kind : (f : Findings) (shape : Shape) (too_many : Bool) → too_many ≡ (nat_le 256 before || nat_lt 64 shape.count) → Gives Distinct r no_findings f shape → first_noted f too_many ≡ find (has relations before view) later_kinds
+  pub noted_kind : (f : Findings) (shape : Shape) (too_many : Bool) → too_many ≡ (nat_le MOST_STATEMENTS before || nat_lt MOST_COLUMNS shape.count) → Gives Distinct r no_findings f shape → first_noted f too_many ≡ find (has relations before view) later_kinds
   noted_kind f shape too_many is h =
-      (λ i. picked (h.added.kinds kind.UnknownColumn i) (h.added.kinds kind.AmbiguousColumn i) (h.added.kinds kind.NestedAggregate i) (h.added.kinds kind.NotGrouped i) (h.added.kinds kind.TypeMismatch i) (h.added.kinds kind.TooWide i) (many i) (h.added.kinds kind.Limit i) f.counts_differ f.sorts_mixed)
-      ∙ (sorts_alike (list_any has_unknown_column r.parts.blocks) (list_any has_ambiguous_column r.parts.blocks) (list_any has_nested_aggregate r.parts.blocks) (list_any has_bare_column r.parts.blocks) (list_any has_mixed_types r.parts.blocks) (list_any has_wide_expr r.parts.blocks) full (list_any has_long_list r.parts.blocks) f.counts_differ f.sorts_mixed (list_any mixes_sorts r.parts.operations) (h.added.sorts tt)
+      (λ i. picked (h.added.kinds kind.UnknownColumn i) (h.added.kinds kind.AmbiguousColumn i) (h.added.kinds kind.NestedAggregate i) (h.added.kinds kind.NotGrouped i) (h.added.kinds kind.TypeMismatch i) (h.added.kinds kind.TooWide i) (many i) (h.added.kinds kind.Limit i) f.column_count f.sort_mismatch)
+      ∙ (sorts_alike (list_any has_unknown_column r.parts.blocks) (list_any has_ambiguous_column r.parts.blocks) (list_any has_nested_aggregate r.parts.blocks) (list_any has_bare_column r.parts.blocks) (list_any has_mixed_types r.parts.blocks) (list_any has_wide_expr r.parts.blocks) full (list_any has_long_list r.parts.blocks) f.column_count f.sort_mismatch (list_any mixes_sorts r.parts.operations) (h.added.sorts tt)
       ∙ (ap (λ c. picked (list_any has_unknown_column r.parts.blocks) (list_any has_ambiguous_column r.parts.blocks) (list_any has_nested_aggregate r.parts.blocks) (list_any has_bare_column r.parts.blocks) (list_any has_mixed_types r.parts.blocks) (list_any has_wide_expr r.parts.blocks) full (list_any has_long_list r.parts.blocks) c (list_any mixes_sorts r.parts.operations)) (h.added.kinds kind.ColumnCount)
       ∙ (last ∙ ap (λ b. cond b (Some kind.DuplicateColumn) behind) (sym (ap (λ b. b || list_any has_same_columns r.parts.heads) (named_alike relations q) ∙ h.differ)))))
     where
       full : Bool
-      full = nat_le 256 before || nat_lt 64 (length r.columns)
+      full = nat_le MOST_STATEMENTS before || nat_lt MOST_COLUMNS (length r.columns)
 
       many : too_many ≡ full
-      many = is ∙ ap (λ n. nat_le 256 before || nat_lt 64 n) h.count
+      many = is ∙ ap (λ n. nat_le MOST_STATEMENTS before || nat_lt MOST_COLUMNS n) h.count
 
       last : picked (list_any has_unknown_column r.parts.blocks) (list_any has_ambiguous_column r.parts.blocks) (list_any has_nested_aggregate r.parts.blocks) (list_any has_bare_column r.parts.blocks) (list_any has_mixed_types r.parts.blocks) (list_any has_wide_expr r.parts.blocks) full (list_any has_long_list r.parts.blocks) (list_any differ_in_count r.parts.operations) (list_any mixes_sorts r.parts.operations) ≡ behind
       last = refl
@@ -172,12 +173,12 @@ module _ (relations : List Relation) (before : ℕ) (name : Text) (columns : Lis
   tabled : Bool → Bool → Bool → Option CheckKind
   tabled named same much = cond (named || false) (Some kind.DuplicateName) (cond (same || false) (Some kind.DuplicateColumn) (cond much (Some kind.Limit) None))
 
-  table_is : tabled (is_named name relations) (repeats (names cs)) ((nat_le 256 before || nat_lt 64 (length cs)) || false) ≡ table
+  table_is : tabled (is_named name relations) (repeats (names cs)) ((nat_le MOST_STATEMENTS before || nat_lt MOST_COLUMNS (length cs)) || false) ≡ table
   unfolding first_kind tabled
   table_is = refl
 
-  much_is : (m : Bool) (n : ℕ) → n ≡ length columns → m ≡ (nat_le 256 before || nat_lt 64 n) → ((nat_le 256 before || nat_lt 64 (length cs)) || false) ≡ m
-  much_is m n same is = or_false (nat_le 256 before || nat_lt 64 (length cs)) ∙ (ap (λ k. nat_le 256 before || nat_lt 64 k) (as_many columns ∙ sym same) ∙ sym is)
+  much_is : (m : Bool) (n : ℕ) → n ≡ length columns → m ≡ (nat_le MOST_STATEMENTS before || nat_lt MOST_COLUMNS n) → ((nat_le MOST_STATEMENTS before || nat_lt MOST_COLUMNS (length cs)) || false) ≡ m
+  much_is m n same is = or_false (nat_le MOST_STATEMENTS before || nat_lt MOST_COLUMNS (length cs)) ∙ (ap (λ k. nat_le MOST_STATEMENTS before || nat_lt MOST_COLUMNS k) (as_many columns ∙ sym same) ∙ sym is)
     where
       as_many : (columns : List ColumnTree) → length (map table_column columns) ≡ length columns
       as_many [] = refl
@@ -185,16 +186,16 @@ module _ (relations : List Relation) (before : ℕ) (name : Text) (columns : Lis
 
   pub named_table : is_named name relations ≡ true → Some kind.DuplicateName ≡ table
   unfolding tabled
-  named_table h = ap (λ b. tabled b (repeats (names cs)) ((nat_le 256 before || nat_lt 64 (length cs)) || false)) (sym h) ∙ table_is
+  named_table h = ap (λ b. tabled b (repeats (names cs)) ((nat_le MOST_STATEMENTS before || nat_lt MOST_COLUMNS (length cs)) || false)) (sym h) ∙ table_is
 
   pub repeated_table : is_named name relations ≡ false → repeats (names cs) ≡ true → Some kind.DuplicateColumn ≡ table
   unfolding tabled
-  repeated_table h same = (λ i. tabled (sym h i) (sym same i) ((nat_le 256 before || nat_lt 64 (length cs)) || false)) ∙ table_is
+  repeated_table h same = (λ i. tabled (sym h i) (sym same i) ((nat_le MOST_STATEMENTS before || nat_lt MOST_COLUMNS (length cs)) || false)) ∙ table_is
 
-  pub too_much_table : (n : ℕ) → n ≡ length columns → is_named name relations ≡ false → repeats (names cs) ≡ false → (nat_le 256 before || nat_lt 64 n) ≡ true → Some kind.Limit ≡ table
+  pub too_much_table : (n : ℕ) → n ≡ length columns → is_named name relations ≡ false → repeats (names cs) ≡ false → (nat_le MOST_STATEMENTS before || nat_lt MOST_COLUMNS n) ≡ true → Some kind.Limit ≡ table
   unfolding tabled
   too_much_table n long h same much = (λ i. tabled (sym h i) (sym same i) (sym (much_is true n long (sym much)) i)) ∙ table_is
 
-  pub good_table : (n : ℕ) → n ≡ length columns → is_named name relations ≡ false → repeats (names cs) ≡ false → (nat_le 256 before || nat_lt 64 n) ≡ false → None ≡ table
+  pub good_table : (n : ℕ) → n ≡ length columns → is_named name relations ≡ false → repeats (names cs) ≡ false → (nat_le MOST_STATEMENTS before || nat_lt MOST_COLUMNS n) ≡ false → None ≡ table
   unfolding tabled
   good_table n long h same much = (λ i. tabled (sym h i) (sym same i) (sym (much_is false n long (sym much)) i)) ∙ table_is

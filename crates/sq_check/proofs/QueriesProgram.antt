@@ -8,12 +8,14 @@ use Rattle.std.proofs.lemmas.List.Sums.{fold-append}
 use Rattle.sq_ast.specs.declared.statement.Body.{Body}
 use Rattle.sq_ast.specs.declared.statement.Body.TheVariants as body
 use Rattle.sq_ast.specs.declared.statement.Statement.{Statement}
+use Rattle.sq_catalog.specs.Names.{is_named}
 use Rattle.sq_catalog.specs.declared.relation.Relation.{Relation}
 use Rattle.sq_typed.specs.Checked.{Spelling, IsChecked}
-use Rattle.sq_typed.specs.Faults.{Described, described, names, has, kinds_in_order, first_kind, first_fault, or_later, refused_from, refused, has_long_list}
+use Rattle.sq_typed.specs.Faults.{Described, described, names, has, has_same_sources, kinds_in_order, first_kind, first_fault, or_later, refused_from, refused, has_long_list}
 use Rattle.sq_typed.specs.Programs.{with_body, program_of, catalog_of, Typed}
 use Rattle.sq_typed.specs.Views.{Meant}
 use Rattle.sq_typed.specs.declared.check_kind.CheckKind.{CheckKind}
+use Rattle.sq_typed.specs.declared.limits.TheConstants.{MOST_COLUMNS, MOST_STATEMENTS}
 use Rattle.sq_typed.specs.declared.check_kind.CheckKind.TheVariants as kind
 use Rattle.sq_check.proofs.QueriesAdded.{or_left}
 use Rattle.sq_check.proofs.QueriesGiven.{whole}
@@ -98,14 +100,23 @@ find_last p (y ∷ ys) x h = find_last p ys x (behind (p y) h)
     behind true h = absurd (cc h)
     behind false h = h
 
-not_late : (i : ℕ) (relations : List Relation) (d : Described) → first_kind relations i d ≡ None → nat_le 256 i ≡ false
+not_late : (i : ℕ) (relations : List Relation) (d : Described) → first_kind relations i d ≡ None → nat_le MOST_STATEMENTS i ≡ false
 unfolding first_kind
 not_late i relations d h =
     let limit : has relations i d kind.Limit ≡ false = find_last (has relations i d) (kind.DuplicateName ∷ kind.UnknownRelation ∷ kind.UnnamedColumn ∷ kind.DuplicateColumn ∷ kind.UnknownColumn ∷ kind.AmbiguousColumn ∷ kind.NestedAggregate ∷ kind.NotGrouped ∷ kind.ColumnCount ∷ kind.TypeMismatch ∷ kind.TooWide ∷ []) kind.Limit h in
-    or_left (nat_le 256 i) (nat_lt 64 (length d.columns)) (or_left (nat_le 256 i || nat_lt 64 (length d.columns)) (list_any has_long_list d.parts.blocks) limit)
+    or_left (nat_le MOST_STATEMENTS i) (nat_lt MOST_COLUMNS (length d.columns)) (or_left (nat_le MOST_STATEMENTS i || nat_lt MOST_COLUMNS (length d.columns)) (list_any has_long_list d.parts.blocks) limit)
 
 pub few_relations : (i : ℕ) (relations : List Relation) (d : Described) → length relations ≡ i → first_kind relations i d ≡ None → length relations < 2 ^ 32 - 1
-few_relations i relations d many none = omega (arith, many, leb-false 256 i (not_late i relations d none))
+few_relations i relations d many none = omega (arith, many, leb-false MOST_STATEMENTS i (not_late i relations d none))
+
+no_first : {A : Type 0} (b : Bool) (x : A) (rest : Option A) → cond b (Some x) rest ≡ None → b ≡ false
+no_first true x rest h = absurd (cc h)
+no_first false x rest h = refl
+
+-- what is created has a new name
+pub new_name : (i : ℕ) (relations : List Relation) (d : Described) → first_kind relations i d ≡ None → is_named d.name relations ≡ false
+unfolding first_kind
+new_name i relations d h = or_left (is_named d.name relations) (list_any has_same_sources d.parts.blocks) (no_first (has relations i d kind.DuplicateName) kind.DuplicateName _ h)
 
 pub all_done : (statements : List Statement) (i : ℕ) (program : Meant) → length statements ≤ i → ProgramSoFar statements i program → (refused statements ≡ None) × Typed statements program
 all_done statements i program over so =

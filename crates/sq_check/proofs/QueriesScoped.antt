@@ -14,7 +14,7 @@ use Rattle.sq_typed.specs.Resolved.{Resolved, Source, Joined, scope_of, on_cond,
 use Rattle.sq_typed.specs.Scopes.{Named, Scope}
 use Rattle.sq_typed.specs.Selected.{Scoped}
 use Rattle.sq_typed.proofs.QueryEquations.{resolved_source, resolved_joined, resolved_step, joined-is, step-is, resolved-Block}
-use Rattle.sq_check.specs.Scoped.{ons_from, scoped_by}
+use Rattle.sq_scope.specs.Scoped.{ons_from, scoped_by}
 
 pub take_through : {A : Type 0} (before : List A) (x : A) (after : List A) → take (suc (length before)) (before ++ x ∷ after) ≡ before ++ x ∷ []
 take_through [] x after = refl

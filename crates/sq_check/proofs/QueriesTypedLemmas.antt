@@ -28,7 +28,7 @@ use Rattle.sq_typed.specs.Resolved.{Resolved, Source, Joined, relation_columns, 
 use Rattle.sq_typed.specs.Scopes.{Named, Scope, Text}
 use Rattle.sq_typed.specs.Selected.{Scoped, chosen, item_expr, grouping, block_columns}
 use Rattle.sq_typed.proofs.QueryEquations.{resolved_source, resolved_joined, resolved_step, resolved-Chain, resolved-Intersect, source-Relation, source-Query}
-use Rattle.sq_check.specs.Scoped.{scoped_by}
+use Rattle.sq_scope.specs.Scoped.{scoped_by}
 use Rattle.sq_check.specs.QueriesTyped.{IsTyped, step_of, joined_with, HasSource, HasSources, items_from}
 use Rattle.sq_check.specs.declared.typed.TypedQuery.{TypedQuery}
 use Rattle.sq_check.proofs.QueriesGiven.{whole}

@@ -11,10 +11,10 @@ use Rattle.sq_typed.specs.Leaves.{Leaf, leaves, column_at, exprs_of}
 use Rattle.sq_typed.specs.Scopes.{Scope, number_of}
 use Rattle.sq_typed.specs.Selected.{Chosen, Starred, Written, written_out, keys}
 use Rattle.sq_typed.proofs.TreeEquations.{leaves-Neg, leaves-Number, leaves-Text, leaves-Column}
-use Rattle.sq_check.specs.Scoped.{scoped_by}
+use Rattle.sq_scope.specs.Scoped.{scoped_by}
 use Rattle.sq_check.specs.TypesBare.{is_bare, bare_leaf, bare_expr, bare_item}
-use Rattle.sq_check.specs.TypesLeaves.{groups}
-use Rattle.sq_check.proofs.TypesTrees.{any_flat, or_false, any_leaf-Sum, any_leaf-Product, leaves_call}
+use Rattle.sq_scope.specs.TypesLeaves.{groups}
+use Rattle.sq_scope.proofs.TypesTrees.{any_flat, or_false, any_leaf-Sum, any_leaf-Product, leaves_call}
 use Rattle.sq_check.proofs.TypesBlocks.{any_at, is_grouped-is}
 
 pub any_map : {A B : Type 0} (p : B → Bool) (f : A → B) (xs : List A) → list_any p (map f xs) ≡ list_any (λ x. p (f x)) xs

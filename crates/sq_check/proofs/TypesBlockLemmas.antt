@@ -14,13 +14,13 @@ use Rattle.sq_typed.specs.declared.query.Query.TheVariants as query
 use Rattle.sq_typed.specs.Numbered.{row_cond}
 use Rattle.sq_typed.specs.Scopes.{Scope}
 use Rattle.sq_typed.specs.Selected.{Chosen, written_out, chosen, keys, block_calls, is_grouped, grouping}
-use Rattle.sq_check.specs.Scoped.{scoped_by}
+use Rattle.sq_scope.specs.Scoped.{scoped_by}
 use Rattle.sq_check.specs.TypesBlockForms.{block_over, frame_grouping}
 use Rattle.sq_check.specs.TypesFrames.{IsFrame, frame_item}
-use Rattle.sq_check.specs.TypesGroups.{over_group_cond}
+use Rattle.sq_scope.specs.TypesGroups.{over_group_cond}
 use Rattle.sq_check.specs.declared.frame.Frame.{Frame}
 use Rattle.sq_check.proofs.TypesFrames.{all_items}
-use Rattle.sq_check.proofs.TypesLists.{flat_more}
+use Rattle.sq_scope.proofs.TypesLists.{flat_more}
 use Rattle.sq_check.proofs.TypesTests.{over_group-is}
 
 -- what a loop makes of one more item

@@ -17,9 +17,9 @@ use Rattle.sq_typed.specs.Leaves.{Leaf, leaves, call_at, is_call, has_call, is_n
 use Rattle.sq_typed.specs.Resolved.{on_cond}
 use Rattle.sq_typed.specs.Scopes.{Scope, Text}
 use Rattle.sq_typed.specs.Selected.{starred, starred_from, written_out, item_leaves, has_group, is_grouped}
-use Rattle.sq_check.specs.Scoped.{ons_from, scoped_by}
-use Rattle.sq_check.specs.TypesLeaves.{nests, leaves_of_item, item_has_call, item_nests, join_has_call, groups, calls_in_rows, calls_nest}
-use Rattle.sq_check.proofs.TypesTrees.{any_flat, or_false}
+use Rattle.sq_scope.specs.Scoped.{ons_from, scoped_by}
+use Rattle.sq_scope.specs.TypesLeaves.{nests, leaves_of_item, item_has_call, item_nests, join_has_call, groups, calls_in_rows, calls_nest}
+use Rattle.sq_scope.proofs.TypesTrees.{any_flat, or_false}
 
 -- ---- leaves of the select list
 

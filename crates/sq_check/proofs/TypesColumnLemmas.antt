@@ -1,6 +1,6 @@
 -- Counts and fronts of lists of columns.
-use Rattle.std.proofs.Common.{◌≡◌, ◌<◌, ℕ, zero, suc, ◌+◌, ◌-◌, Bool, true, false, ◌||◌, List, [], ◌∷◌, ◌++◌, map, length, get_or, take, drop, refl, ap, sym, ◌∙◌, length-append, arith}
-use Rattle.std.specs.Prelude.{bytes_eq}
+use Rattle.std.proofs.Common.{◌≡◌, ◌<◌, ◌≤◌, ℕ, zero, suc, ◌+◌, ◌-◌, Bool, true, false, ◌||◌, List, [], ◌∷◌, ◌++◌, map, length, get_or, take, drop, refl, ap, sym, ◌∙◌, length-append, arith}
+use Rattle.std.specs.Prelude.{bytes_eq, if◌then◌else◌}
 use Rattle.std.specs.List.{flat_map, list_any}
 use Rattle.std.proofs.lemmas.List.{map-append}
 use Rattle.std.proofs.lemmas.List.Folds.{list_any-append}
@@ -11,9 +11,9 @@ use Rattle.sq_typed.specs.Faults.{names}
 use Rattle.sq_typed.specs.Scopes.{Named, Scope, Text, columns_in, repeats}
 use Rattle.sq_typed.specs.Selected.{Chosen, starred, starred_from, written_out}
 use Rattle.sq_check.specs.TypesColumns.{up_to}
-use Rattle.sq_check.specs.TypesItems.{starred_at}
-use Rattle.sq_check.proofs.TypesLists.{flat_more}
-use Rattle.sq_check.proofs.TypesStars.{columns_here}
+use Rattle.sq_scope.specs.TypesItems.{starred_at}
+use Rattle.sq_scope.proofs.TypesLists.{flat_more}
+use Rattle.sq_scope.proofs.TypesStars.{columns_here}
 use Rattle.sq_check.proofs.TypesBlockLemmas.{more_items}
 
 -- ---- counts
@@ -22,20 +22,33 @@ length_from : (n : ℕ) (cs : List Column) → length (starred_from n cs) ≡ le
 length_from n [] = refl
 length_from n (c ∷ cs) = ap suc (length_from (suc n) cs)
 
-length_all : (begin : ℕ) (ss : Scope) → length (starred (λ name. true) begin ss) ≡ length (columns_in ss)
+-- a plain star stands for all columns
+pub length_all : (begin : ℕ) (ss : Scope) → length (starred (λ name. true) begin ss) ≡ length (columns_in ss)
 length_all begin [] = refl
 length_all begin (s ∷ ss) =
     length-append (starred_from begin s.columns) (starred (λ name. true) (begin + length s.columns) ss)
     ∙ ((λ i. length_from begin s.columns i + length_all (begin + length s.columns) ss i)
     ∙ sym (length-append s.columns (columns_in ss)))
 
+some_of : (begin : ℕ) (cs : List Column) (b : Bool) → length (if b then starred_from begin cs else []) ≤ length cs
+some_of begin cs true = omega (arith, length_from begin cs)
+some_of begin cs false = omega arith
+
+-- some sources have no more columns than all
+pub some_columns : (test : Text → Bool) (begin : ℕ) (ss : Scope) → length (starred test begin ss) ≤ length (columns_in ss)
+some_columns test begin [] = omega arith
+some_columns test begin (s ∷ ss) =
+    omega (
+      arith,
+      some_of begin s.columns (test s.name),
+      some_columns test (begin + length s.columns) ss,
+      length-append (if test s.name then starred_from begin s.columns else []) (starred test (begin + length s.columns) ss),
+      length-append s.columns (columns_in ss),
+    )
+
 whole : {A : Type 0} (xs : List A) → take (length xs) xs ≡ xs
 whole [] = refl
 whole (x ∷ xs) = ap (λ ys. x ∷ ys) (whole xs)
-
--- all columns are counted by where they end
-pub star_count : (ss : Scope) (n end : ℕ) → n ≡ length ss → end ≡ length (columns_in (take n ss)) → end ≡ length (starred (λ name. true) 0 ss)
-star_count ss n end all is = is ∙ (ap (λ k. length (columns_in (take k ss))) all ∙ (ap (λ ts. length (columns_in ts)) (whole ss) ∙ sym (length_all 0 ss)))
 
 pub count_at : (ss : Scope) (i : ℕ) (s : Named) → i < length ss → s ≡ get_or ss i s → length s.columns ≡ length (starred_at ss i)
 count_at ss i s below is = sym (length_from (length (columns_in (take i ss))) (get_or (map (λ s. s.columns) ss) i []) ∙ ap length (columns_here ss i s below is))

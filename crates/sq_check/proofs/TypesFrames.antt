@@ -10,14 +10,14 @@ use Rattle.sq_typed.specs.Leaves.{leaves, exprs_of}
 use Rattle.sq_typed.specs.Numbered.{row_expr, replaced, typed_call, is_same_call, kind_of}
 use Rattle.sq_typed.specs.Scopes.{Scope, number_of, kinds_in}
 use Rattle.sq_typed.specs.Selected.{Scoped, Chosen, Starred, Written, is_grouped, keys, block_calls, key_place, group_expr, group_kinds, item_expr, item_kinds, item_name, item_column}
-use Rattle.sq_check.specs.Scoped.{scoped_by}
+use Rattle.sq_scope.specs.Scoped.{scoped_by}
 use Rattle.sq_check.specs.TypesFrames.{IsFrame, frame_place, frame_kinds, frame_item, frame_column}
-use Rattle.sq_check.specs.TypesGroups.{with_calls, place_of_key, over_group, key_kinds, call_kinds}
-use Rattle.sq_check.specs.TypesLeaves.{leaves_of_item, groups}
+use Rattle.sq_scope.specs.TypesGroups.{with_calls, place_of_key, over_group, key_kinds, call_kinds}
+use Rattle.sq_scope.specs.TypesLeaves.{leaves_of_item, groups}
 use Rattle.sq_check.specs.declared.frame.Frame.{Frame}
-use Rattle.sq_check.specs.declared.grouped.Groups.{Groups}
+use Rattle.sq_scope.specs.declared.grouped.Groups.{Groups}
 use Rattle.sq_check.proofs.TypesBlocks.{list_leaves-is, is_grouped-is}
-use Rattle.sq_check.proofs.TypesCalls.{with_calls_append}
+use Rattle.sq_scope.proofs.TypesCalls.{with_calls_append}
 
 -- the calls of the items and then those of HAVING are the calls of the block
 pub block_calls_are : (scope : Scope) (b : BlockTree) → with_calls scope (with_calls scope [] (flat_map leaves_of_item (out-BlockTree b).items)) (flat_map leaves (exprs_of (out-BlockTree b).having)) ≡ block_calls (scoped_by scope b)

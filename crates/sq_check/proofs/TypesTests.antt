@@ -18,15 +18,15 @@ use Rattle.sq_typed.specs.Numbered.{row_cond, replaced_cond}
 use Rattle.sq_typed.specs.Resolved.{on_cond}
 use Rattle.sq_typed.specs.Scopes.{Scope, kinds_in}
 use Rattle.sq_typed.specs.Selected.{Chosen, written_out, chosen, item_kinds, item_expr, block_calls, keys, group_kinds, group_cond}
-use Rattle.sq_check.specs.Scoped.{ons_from, scoped_by}
+use Rattle.sq_scope.specs.Scoped.{ons_from, scoped_by}
 use Rattle.sq_check.specs.TypesFrames.{IsFrame, frame_item}
-use Rattle.sq_check.specs.TypesGroups.{over_group_cond}
+use Rattle.sq_scope.specs.TypesGroups.{over_group_cond}
 use Rattle.sq_check.specs.TypesTests.{fails, cond_fails, item_fails, call_fails, on_fails, having_fails, exprs_fail, conds_fail}
 use Rattle.sq_check.specs.declared.frame.Frame.{Frame}
-use Rattle.sq_check.specs.declared.testing.Test.{Test}
-use Rattle.sq_check.specs.declared.testing.Test.TheVariants.{Types, Bounds}
-use Rattle.sq_check.proofs.TypesTrees.{any_flat, append_empty}
-use Rattle.sq_check.proofs.TypesLists.{left_false, right_false}
+use Rattle.sq_check.specs.declared.type_tests.Test.{Test}
+use Rattle.sq_check.specs.declared.type_tests.Test.TheVariants.{Types, Bounds}
+use Rattle.sq_scope.proofs.TypesTrees.{any_flat, append_empty}
+use Rattle.sq_scope.proofs.TypesLists.{left_false, right_false}
 use Rattle.sq_check.proofs.TypesBlocks.{any_at}
 use Rattle.sq_check.proofs.TypesBare.{any_map, any_same}
 use Rattle.sq_check.proofs.TypesFrames.{frame_item-is, frame_kinds-is, group_expr-is}

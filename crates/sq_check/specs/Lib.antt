@@ -1,13 +1,4 @@
-pub mod Scoped
-pub mod NamesFound
-pub mod NamesIndex
-pub mod NamesReferences
-pub mod NamesFaults
-pub mod TypesLeaves
-pub mod TypesNumbered
-pub mod TypesGroups
 pub mod TypesFrames
-pub mod TypesItems
 pub mod TypesBare
 pub mod TypesTests
 pub mod TypesBlockForms

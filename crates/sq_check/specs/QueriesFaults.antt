@@ -10,12 +10,12 @@ no_findings = record {
   unknown_column = false;
   ambiguous_column = false;
   nested_aggregate = false;
-  bare_column = false;
-  counts_differ = false;
-  types_mixed = false;
-  sorts_mixed = false;
+  not_grouped = false;
+  column_count = false;
+  type_mismatch = false;
+  sort_mismatch = false;
   too_wide = false;
-  too_long = false;
+  limit = false;
 }
 
 -- the first kind that was noted, where a statement may stand too late or have too many columns
@@ -24,11 +24,11 @@ first_noted f too_many =
     if f.unknown_column then Some kind.UnknownColumn else
     if f.ambiguous_column then Some kind.AmbiguousColumn else
     if f.nested_aggregate then Some kind.NestedAggregate else
-    if f.bare_column then Some kind.NotGrouped else
-    if f.counts_differ then Some kind.ColumnCount else
-    if f.types_mixed || f.sorts_mixed then Some kind.TypeMismatch else
+    if f.not_grouped then Some kind.NotGrouped else
+    if f.column_count then Some kind.ColumnCount else
+    if f.type_mismatch || f.sort_mismatch then Some kind.TypeMismatch else
     if f.too_wide then Some kind.TooWide else
-    if too_many || f.too_long then Some kind.Limit else None
+    if too_many || f.limit then Some kind.Limit else None
 
 -- the kinds that are told with the columns of sources
 abbrev pub later_kinds : List CheckKind

@@ -23,11 +23,11 @@ abbrev pub noted : CheckKind → Findings → Bool
 noted UnknownColumn f = f.unknown_column
 noted AmbiguousColumn f = f.ambiguous_column
 noted NestedAggregate f = f.nested_aggregate
-noted NotGrouped f = f.bare_column
-noted ColumnCount f = f.counts_differ
-noted TypeMismatch f = f.types_mixed
+noted NotGrouped f = f.not_grouped
+noted ColumnCount f = f.column_count
+noted TypeMismatch f = f.type_mismatch
 noted TooWide f = f.too_wide
-noted Limit f = f.too_long
+noted Limit f = f.limit
 noted kind f = false
 
 -- whether these parts have what a kind of fault is about, apart from set operations of numbers with texts
@@ -50,7 +50,7 @@ one_block b = record { blocks = b ∷ []; heads = []; relations = []; operations
 -- operations of numbers with texts too
 pub record Adds (Met : Type 0) (before after : Findings) (p : Parts) : Type 0 where
   pub kinds : (kind : CheckKind) → noted kind after ≡ (noted kind before || stands kind p)
-  pub sorts : Met → after.counts_differ ≡ false → after.sorts_mixed ≡ (before.sorts_mixed || list_any mixes_sorts p.operations)
+  pub sorts : Met → after.column_count ≡ false → after.sort_mismatch ≡ (before.sort_mismatch || list_any mixes_sorts p.operations)
 
 -- ---- columns
 
@@ -102,12 +102,12 @@ with_operand f before other = record {
   unknown_column = f.unknown_column;
   ambiguous_column = f.ambiguous_column;
   nested_aggregate = f.nested_aggregate;
-  bare_column = f.bare_column;
-  counts_differ = f.counts_differ || not (other.count == before.count);
-  types_mixed = f.types_mixed;
-  sorts_mixed = f.sorts_mixed || differ_in_sort before.columns other.columns;
+  not_grouped = f.not_grouped;
+  column_count = f.column_count || not (other.count == before.count);
+  type_mismatch = f.type_mismatch;
+  sort_mismatch = f.sort_mismatch || differ_in_sort before.columns other.columns;
   too_wide = f.too_wide;
-  too_long = f.too_long;
+  limit = f.limit;
 }
 
 -- what the operands so far give, if there is one

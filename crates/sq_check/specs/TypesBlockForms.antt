@@ -11,7 +11,7 @@ use Rattle.sq_typed.specs.declared.query.Query.{Query}
 use Rattle.sq_typed.specs.declared.query.Query.TheVariants as query
 use Rattle.sq_typed.specs.Numbered.{row_cond}
 use Rattle.sq_typed.specs.Selected.{Scoped, chosen, grouping, item_expr}
-use Rattle.sq_check.specs.TypesGroups.{over_group_cond}
+use Rattle.sq_scope.specs.TypesGroups.{over_group_cond}
 use Rattle.sq_check.specs.declared.frame.Frame.{Frame}
 
 -- the typed query of a block b with this tree, over these sources

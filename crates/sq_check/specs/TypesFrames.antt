@@ -8,7 +8,7 @@ use Rattle.sq_expr.specs.declared.expr.Kind.{Kind}
 use Rattle.sq_typed.specs.Numbered.{row_expr, kind_of}
 use Rattle.sq_typed.specs.Scopes.{kinds_in}
 use Rattle.sq_typed.specs.Selected.{Scoped, Chosen, Starred, Written, item_name, is_grouped, keys, block_calls, group_kinds}
-use Rattle.sq_check.specs.TypesGroups.{place_of_key, over_group}
+use Rattle.sq_scope.specs.TypesGroups.{place_of_key, over_group}
 use Rattle.sq_check.specs.declared.frame.Frame.{Frame}
 
 -- the place of a column of the sources in the row over which the items are

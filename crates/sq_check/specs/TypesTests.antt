@@ -13,12 +13,12 @@ use Rattle.sq_typed.specs.Faults.{is_too_wide}
 use Rattle.sq_typed.specs.Numbered.{row_cond}
 use Rattle.sq_typed.specs.Scopes.{Scope, kinds_in}
 use Rattle.sq_typed.specs.Selected.{Chosen, written_out}
-use Rattle.sq_check.specs.Scoped.{ons_from}
+use Rattle.sq_scope.specs.Scoped.{ons_from}
 use Rattle.sq_check.specs.TypesFrames.{frame_item, frame_kinds}
-use Rattle.sq_check.specs.TypesGroups.{over_group_cond}
+use Rattle.sq_scope.specs.TypesGroups.{over_group_cond}
 use Rattle.sq_check.specs.declared.frame.Frame.{Frame}
-use Rattle.sq_check.specs.declared.testing.Test.{Test}
-use Rattle.sq_check.specs.declared.testing.Test.TheVariants.{Types, Bounds}
+use Rattle.sq_check.specs.declared.type_tests.Test.{Test}
+use Rattle.sq_check.specs.declared.type_tests.Test.TheVariants.{Types, Bounds}
 
 -- whether an expression over columns of some kinds fails a test, and whether a condition does
 abbrev pub fails : Test → List Kind → Expr → Bool

@@ -1,19 +1,16 @@
+//! Whether a grouped block has a column outside of calls that is none of GROUP BY.
 ghost use Rattle.std.specs.Prelude.{◌≡◌, IfOk, map};
 ghost use Rattle.std.specs.List.{list_any};
 ghost use Rattle.sq_typed.specs.Faults.{has_bare_column};
 ghost use Rattle.sq_typed.specs.Leaves.{exprs_in, exprs_of};
 ghost use Rattle.sq_typed.specs.Selected.{written_out};
-ghost use Rattle.sq_check.specs.Scoped.{scoped_by};
-ghost use Rattle.sq_check.specs.TypesBare.{bare_expr, bare_item, is_bare};
-ghost use Rattle.sq_check.specs.TypesItems.{chosen_of};
+ghost use Rattle.sq_scope.specs.Scoped.{scoped_by};
+ghost use Rattle.sq_check.specs.TypesBare.{bare_expr, bare_item};
+ghost use Rattle.sq_scope.specs.TypesItems.{chosen_of};
 
-use crate::Scope;
-use crate::chosen::{ListItem, chosen};
-use crate::keys::Keys;
 use crate::leaves::is_grouped;
-use crate::row::Row;
-use crate::stars::each_star_once;
 use sq_ast::{BlockTree, CondTree, ExprTree, ItemTree, TermTree};
+use sq_scope::{Keys, ListItem, Row, Scope, chosen, each_star_once};
 use sq_value::NoMemory;
 use std::alloc::Global;
 
@@ -95,18 +92,6 @@ fn listed_is_bare(row: &Row, keys: &Keys, item: &ListItem) -> bool
     }
 }
 
-impl Keys {
-    // Whether the column with this number is none of them.
-    fn lacks(&self, number: u32) -> bool
-        ensures { result ≡ is_bare self.now.numbers number }
-    {
-        match self.place_of(number) {
-            Some(_) => false,
-            None => true,
-        }
-    }
-}
-
 #[cycle(bare)]
 #[tactic(auto, using(crate::proofs::TypesBare::bare_forms))]
 fn expr_is_bare(row: &Row, keys: &Keys, expr: &ExprTree) -> bool
@@ -153,7 +138,7 @@ fn having_is_bare(row: &Row, keys: &Keys, having: &Option<CondTree>) -> bool
 }
 
 #[cycle(bare_cond)]
-#[tactic(auto, using(crate::proofs::TypesTrees::cond_forms))]
+#[tactic(auto, using(sq_scope::proofs::TypesTrees::cond_forms))]
 fn cond_is_bare(row: &Row, keys: &Keys, cond: &CondTree) -> bool
     ensures { result ≡ list_any (bare_expr row.now keys.now.numbers) (exprs_in cond.now) }
 {

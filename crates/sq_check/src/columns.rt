@@ -1,63 +1,65 @@
-ghost use Rattle.std.specs.Prelude.{◌≡◌, ◌<◌, ◌++◌, ◌∷◌, [], bytes_eq, if◌then◌else◌, IfOk, MatchOption, OnOk, false, length, map, nat_lt, take, true};
+//! How many columns a block gives, and which.
+ghost use Rattle.std.specs.Prelude.{◌≡◌, ◌<◌, ◌≤◌, ◌^◌, ◌++◌, ◌∷◌, [], bytes_eq, if◌then◌else◌, IfOk, MatchOption, OnOk, false, length, map, nat_lt, take, true};
 ghost use Rattle.std.specs.List.{flat_map};
 ghost use Rattle.sq_typed.specs.Faults.{has_long_list, names};
-ghost use Rattle.sq_typed.specs.Scopes.{repeats};
+ghost use Rattle.sq_typed.specs.Scopes.{columns_in, repeats};
 ghost use Rattle.sq_typed.specs.Selected.{block_columns, chosen, starred, written_out};
-ghost use Rattle.sq_check.specs.Scoped.{scoped_by};
+ghost use Rattle.sq_scope.specs.Scoped.{scoped_by};
 ghost use Rattle.sq_check.specs.TypesColumns.{up_to};
 ghost use Rattle.sq_check.specs.TypesFrames.{frame_column};
-ghost use Rattle.sq_check.specs.TypesItems.{chosen_of, starred_at};
+ghost use Rattle.sq_scope.specs.TypesItems.{chosen_of, starred_at};
 
-use crate::Scope;
-use crate::chosen::{ListItem, chosen, sum};
 use crate::frame::Frame;
 use crate::listed::push_columns;
-use crate::repeating::repeats;
 use sq_ast::{BlockTree, ItemTree};
 use sq_catalog::Column;
+use sq_scope::{ListItem, Scope, chosen, repeats};
+use sq_typed::{MOST_COLUMNS, MOST_SOURCES};
 use sq_value::{NoMemory, Str};
 use sqlite_items::Items;
 use std::alloc::Global;
 
-/// The number of items of the block, with stars written out. Takes no memory; `NoMemory` only where 64 bits do not hold it.
-pub fn chosen_count(scope: &Scope, block: &BlockTree) -> Result<u64, NoMemory>
-    ensures { IfOk result (λ count. count ≡ length (chosen (scoped_by scope.now block.now))) }
+/// The number of items of the block, with stars written out. Takes no memory.
+pub fn chosen_count(scope: &Scope, block: &BlockTree) -> u128
+    ensures { result ≡ length (chosen (scoped_by scope.now block.now)) }
 {
-    let count = items_count(scope, block.items.as_slice())?;
-    Ok(count as u64)
+    items_count(scope, block.items.as_slice())
 }
 
-fn items_count(scope: &Scope, items: &[ItemTree]) -> Result<usize, NoMemory>
-    ensures { IfOk result (λ count. count ≡ length (flat_map (written_out scope.now) items.now)) }
+fn items_count(scope: &Scope, items: &[ItemTree]) -> u128
+    ensures { result ≡ length (flat_map (written_out scope.now) items.now) }
 {
     let mut count = 0;
     for item in items {
-        let more = item_count(scope, item)?;
-        count = sum(count, more)?;
+        count += item_count(scope, item);
     }
-    Ok(count)
+    count
 }
 
-fn item_count(scope: &Scope, item: &ItemTree) -> Result<usize, NoMemory>
-    ensures { IfOk result (λ count. count ≡ length (written_out scope.now item.now)) }
+// A star stands for at most all columns, of which there are fewer than 2^32.
+fn item_count(scope: &Scope, item: &ItemTree) -> u128
+    ensures count { result ≡ length (written_out scope.now item.now) }
+    ensures few { result ≤ 2 ^ 32 }
 {
+    let width = scope.width() as u128;
     match item {
-        ItemTree::Expr { .. } => Ok(1),
-        ItemTree::Star => Ok(scope.begin(scope.len())),
+        ItemTree::Expr { .. } => 1,
+        ItemTree::Star => width,
         ItemTree::StarOf(of) => named_count(scope, of),
     }
 }
 
 // The number of columns of the sources with this name.
-fn named_count(scope: &Scope, name: &Str) -> Result<usize, NoMemory>
-    ensures { IfOk result (λ count. count ≡ length (starred (bytes_eq name.now) 0 scope.now)) }
+fn named_count(scope: &Scope, name: &Str) -> u128
+    ensures count { result ≡ length (starred (bytes_eq name.now) 0 scope.now) }
+    ensures few { result ≤ length (columns_in scope.now) }
 {
     let mut count = 0;
     for place in scope.named(name) {
         let more = column_count(scope, *place);
-        count = sum(count, more)?;
+        count += more as u128;
     }
-    Ok(count)
+    count
 }
 
 // The number of columns of the source at this place.
@@ -68,15 +70,14 @@ fn column_count(scope: &Scope, place: usize) -> usize
     scope.sources()[place].columns().len()
 }
 
-/// Whether the block has more than 64 items, with stars written out, or more than 16 sources. Takes no memory; `NoMemory` only
-/// where 64 bits do not hold the number of items.
-pub fn has_long_list(scope: &Scope, block: &BlockTree) -> Result<bool, NoMemory>
-    ensures { IfOk result (λ long. long ≡ has_long_list (scoped_by scope.now block.now)) }
+/// Whether the block has more items than a select list may have, with stars written out, or more sources than a `FROM` may
+/// have. Takes no memory.
+pub fn has_long_list(scope: &Scope, block: &BlockTree) -> bool
+    ensures { result ≡ has_long_list (scoped_by scope.now block.now) }
 {
-    let count = chosen_count(scope, block)?;
-    let has_many_items = count > 64;
-    let has_many_sources = scope.len() > 16;
-    Ok(has_many_items | has_many_sources)
+    let has_many_items = chosen_count(scope, block) > MOST_COLUMNS as u128;
+    let has_many_sources = scope.len() > MOST_SOURCES;
+    has_many_items | has_many_sources
 }
 
 /// The first columns that the block gives, up to so many, or `NoMemory` where memory runs out.
@@ -84,7 +85,7 @@ pub fn first_columns(
     alloc: Global,
     scope: &Scope,
     block: &BlockTree,
-    limit: usize,
+    limit: u128,
 ) -> Result<Items<Column>, NoMemory>
     ensures { IfOk result (λ columns. columns ≡ take limit (block_columns (scoped_by scope.now block.now))) }
 {
@@ -98,7 +99,7 @@ fn columns_up_to(
     frame: &Frame,
     scope: &Scope,
     items: &[ItemTree],
-    limit: usize,
+    limit: u128,
 ) -> Result<Items<Column>, NoMemory>
     ensures { IfOk result (λ columns. columns ≡ take limit (map (frame_column frame.now) (flat_map (written_out scope.now) items.now))) }
 {
@@ -115,12 +116,12 @@ fn add_item(
     frame: &Frame,
     scope: &Scope,
     item: &ItemTree,
-    limit: usize,
+    limit: u128,
     columns: &mut Items<Column>,
 ) -> Result<(), NoMemory>
     ensures { OnOk result (columns.new ≡ up_to limit columns.old (map (frame_column frame.now) (written_out scope.now item.now))) }
 {
-    if columns.len() >= limit {
+    if columns.len() as u128 >= limit {
         return Ok(());
     }
     let items = chosen(alloc, scope, item)?;
@@ -131,7 +132,7 @@ fn add_listed(
     alloc: Global,
     frame: &Frame,
     items: &[ListItem],
-    limit: usize,
+    limit: u128,
     columns: &mut Items<Column>,
 ) -> Result<(), NoMemory>
     ensures { OnOk result (columns.new ≡ up_to limit columns.old (map (frame_column frame.now) (map chosen_of items.now))) }
@@ -146,12 +147,12 @@ fn add_column(
     alloc: Global,
     frame: &Frame,
     item: &ListItem,
-    limit: usize,
+    limit: u128,
     columns: &mut Items<Column>,
 ) -> Result<(), NoMemory>
     ensures { OnOk result (columns.new ≡ (if nat_lt (length columns.old) limit then columns.old ++ frame_column frame.now (chosen_of item.now) ∷ [] else columns.old)) }
 {
-    if columns.len() < limit {
+    if (columns.len() as u128) < limit {
         let column = frame.item_column(alloc, item)?;
         columns.push(column)?;
     }

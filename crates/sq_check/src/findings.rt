@@ -2,16 +2,16 @@
 ghost use Rattle.std.specs.Prelude.{◌≡◌, ⊤, ◌||◌, [], ◌∷◌, OnOk};
 ghost use Rattle.sq_check.specs.QueriesFaults.{first_noted, no_findings};
 ghost use Rattle.sq_check.specs.QueriesFound.{Adds, one_block, with_operand};
-ghost use Rattle.sq_check.specs.Scoped.{scoped_by};
+ghost use Rattle.sq_scope.specs.Scoped.{scoped_by};
 
 use crate::bare::has_bare_column;
 use crate::columns::has_long_list;
 use crate::leaves::has_nested_aggregate;
 use crate::resolve::Shape;
-use crate::testing::{has_mixed_types, has_wide_expr};
+use crate::type_tests::{has_mixed_types, has_wide_expr};
 use crate::widen::sorts_differ;
-use crate::{Scope, has_ambiguous_column, has_unknown_column};
 use sq_ast::BlockTree;
+use sq_scope::{Scope, has_ambiguous_column, has_unknown_column};
 use sq_typed::CheckKind;
 use sq_value::NoMemory;
 use std::alloc::Global;
@@ -22,13 +22,13 @@ pub(crate) struct Findings {
     pub(crate) unknown_column: bool,
     pub(crate) ambiguous_column: bool,
     pub(crate) nested_aggregate: bool,
-    pub(crate) bare_column: bool,
-    pub(crate) counts_differ: bool,
-    pub(crate) types_mixed: bool,
+    pub(crate) not_grouped: bool,
+    pub(crate) column_count: bool,
+    pub(crate) type_mismatch: bool,
     // Told where no counts differ.
-    pub(crate) sorts_mixed: bool,
+    pub(crate) sort_mismatch: bool,
     pub(crate) too_wide: bool,
-    pub(crate) too_long: bool,
+    pub(crate) limit: bool,
 }
 
 impl Findings {
@@ -40,12 +40,12 @@ impl Findings {
             unknown_column: false,
             ambiguous_column: false,
             nested_aggregate: false,
-            bare_column: false,
-            counts_differ: false,
-            types_mixed: false,
-            sorts_mixed: false,
+            not_grouped: false,
+            column_count: false,
+            type_mismatch: false,
+            sort_mismatch: false,
             too_wide: false,
-            too_long: false,
+            limit: false,
         }
     }
 
@@ -61,10 +61,10 @@ impl Findings {
         self.unknown_column |= has_unknown_column(scope, block);
         self.ambiguous_column |= has_ambiguous_column(scope, block);
         self.nested_aggregate |= has_nested_aggregate(block);
-        self.bare_column |= has_bare_column(alloc, scope, block)?;
-        self.types_mixed |= has_mixed_types(alloc, scope, block)?;
+        self.not_grouped |= has_bare_column(alloc, scope, block)?;
+        self.type_mismatch |= has_mixed_types(alloc, scope, block)?;
         self.too_wide |= has_wide_expr(alloc, scope, block)?;
-        self.too_long |= has_long_list(scope, block)?;
+        self.limit |= has_long_list(scope, block);
         Ok(())
     }
 
@@ -72,8 +72,8 @@ impl Findings {
     pub(crate) fn note_operand(&mut self, before: &Shape, other: &Shape)
         ensures { self.new ≡ with_operand self.old before.now other.now }
     {
-        self.counts_differ |= other.count != before.count;
-        self.sorts_mixed |= sorts_differ(before.columns.as_slice(), other.columns.as_slice());
+        self.column_count |= other.count != before.count;
+        self.sort_mismatch |= sorts_differ(before.columns.as_slice(), other.columns.as_slice());
     }
 
     /// The first kind of fault that was noted, where the statement may be one too many or have too many columns.
@@ -86,15 +86,15 @@ impl Findings {
             Some(CheckKind::AmbiguousColumn)
         } else if self.nested_aggregate {
             Some(CheckKind::NestedAggregate)
-        } else if self.bare_column {
+        } else if self.not_grouped {
             Some(CheckKind::NotGrouped)
-        } else if self.counts_differ {
+        } else if self.column_count {
             Some(CheckKind::ColumnCount)
-        } else if self.types_mixed || self.sorts_mixed {
+        } else if self.type_mismatch || self.sort_mismatch {
             Some(CheckKind::TypeMismatch)
         } else if self.too_wide {
             Some(CheckKind::TooWide)
-        } else if too_many || self.too_long {
+        } else if too_many || self.limit {
             Some(CheckKind::Limit)
         } else {
             None

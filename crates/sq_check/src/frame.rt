@@ -1,20 +1,18 @@
+//! What the items of a block are over: the columns of its sources, or its group row.
 ghost use Rattle.std.specs.Prelude.{◌≡◌, IfOk, OnOk};
 ghost use Rattle.std.specs.List.{flat_map};
 ghost use Rattle.sq_typed.specs.Leaves.{exprs_of, leaves};
 ghost use Rattle.sq_typed.specs.Selected.{block_calls, keys};
-ghost use Rattle.sq_check.specs.Scoped.{scoped_by};
+ghost use Rattle.sq_scope.specs.Scoped.{scoped_by};
 ghost use Rattle.sq_check.specs.TypesFrames.{IsFrame, frame_expr, frame_kinds, frame_place};
-ghost use Rattle.sq_check.specs.TypesGroups.{with_calls};
+ghost use Rattle.sq_scope.specs.TypesGroups.{with_calls};
 
-use crate::Scope;
-use crate::calls::{push_cond_calls, push_list_calls};
-use crate::grouped::{Groups, group_expr, group_kinds};
-use crate::keys::Keys;
 use crate::leaves::is_grouped;
-use crate::numbered::row_expr;
-use crate::row::Row;
 use sq_ast::{BlockTree, CondTree, ExprTree};
 use sq_expr::{Expr, Kind};
+use sq_scope::{
+    Groups, Keys, Row, Scope, group_expr, group_kinds, push_cond_calls, push_list_calls, row_expr,
+};
 use sq_typed::BlockCall;
 use sq_value::NoMemory;
 use sqlite_items::Items;
@@ -103,7 +101,7 @@ fn calls_of(alloc: Global, row: &Row, block: &BlockTree) -> Result<Items<BlockCa
     Ok(calls)
 }
 
-#[tactic(auto, using(crate::proofs::TypesTrees::append_empty))]
+#[tactic(auto, using(sq_scope::proofs::TypesTrees::append_empty))]
 fn push_having_calls(
     alloc: Global,
     row: &Row,

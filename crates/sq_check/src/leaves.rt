@@ -1,17 +1,18 @@
+//! Whether a block is grouped, and whether a call stands where none may.
 ghost use Rattle.std.specs.Prelude.{◌≡◌, option_to_list};
 ghost use Rattle.std.specs.List.{list_any};
 ghost use Rattle.sq_typed.specs.Faults.{has_nested_aggregate};
 ghost use Rattle.sq_typed.specs.Leaves.{exprs_in, exprs_of, has_call};
 ghost use Rattle.sq_typed.specs.Scopes.{Scope};
-ghost use Rattle.sq_check.specs.Scoped.{scoped_by};
-ghost use Rattle.sq_check.specs.TypesLeaves.{calls_in_rows, calls_nest, groups, has_nested_call, item_has_call, item_nests, join_has_call};
+ghost use Rattle.sq_scope.specs.Scoped.{scoped_by};
+ghost use Rattle.sq_scope.specs.TypesLeaves.{calls_in_rows, calls_nest, groups, has_nested_call, item_has_call, item_nests, join_has_call};
 
 use sq_ast::{BlockTree, CondTree, ExprTree, ItemTree, JoinTree, JoinedTree, TermTree};
 use sqlite_items::Boxed;
 
 /// Whether a call of an aggregate function stands in the expression.
 #[cycle(call)]
-#[tactic(auto, using(crate::proofs::TypesTrees::leaf_forms))]
+#[tactic(auto, using(sq_scope::proofs::TypesTrees::leaf_forms))]
 pub(crate) fn has_call(expr: &ExprTree) -> bool
     ensures { result ≡ has_call expr.now }
 {
@@ -48,7 +49,7 @@ fn any_has_call(exprs: &[ExprTree]) -> bool
 
 /// Whether a call stands in the argument of a call in the expression.
 #[cycle(nested)]
-#[tactic(auto, using(crate::proofs::TypesTrees::nested_forms))]
+#[tactic(auto, using(sq_scope::proofs::TypesTrees::nested_forms))]
 fn has_nested_call(expr: &ExprTree) -> bool
     ensures { result ≡ has_nested_call expr.now }
 {
@@ -94,7 +95,7 @@ fn argument_has_call(arg: &Option<Boxed<ExprTree>>) -> bool
 
 /// Whether a call stands in an expression of the condition.
 #[cycle(cond_call)]
-#[tactic(auto, using(crate::proofs::TypesTrees::cond_forms))]
+#[tactic(auto, using(sq_scope::proofs::TypesTrees::cond_forms))]
 fn cond_has_call(cond: &CondTree) -> bool
     ensures { result ≡ list_any has_call (exprs_in cond.now) }
 {
@@ -120,7 +121,7 @@ fn any_cond_has_call(conds: &[CondTree]) -> bool
 
 /// Whether a call stands in the argument of a call in the condition.
 #[cycle(cond_nested)]
-#[tactic(auto, using(crate::proofs::TypesTrees::cond_forms))]
+#[tactic(auto, using(sq_scope::proofs::TypesTrees::cond_forms))]
 fn cond_has_nested_call(cond: &CondTree) -> bool
     ensures { result ≡ list_any has_nested_call (exprs_in cond.now) }
 {

@@ -1,16 +1,15 @@
+//! The expressions and columns of the items of a select list.
 ghost use Rattle.std.specs.Prelude.{◌≡◌, ◌++◌, [], IfOk, OnOk, map, unwrap_or};
 ghost use Rattle.sq_ast.specs.declared.expr.ExprTree.{out-ExprTree};
 ghost use Rattle.sq_typed.specs.Selected.{Written, item_name, plain_name, written_out};
 ghost use Rattle.sq_check.specs.TypesFrames.{frame_column, frame_item};
-ghost use Rattle.sq_check.specs.TypesItems.{chosen_of};
+ghost use Rattle.sq_scope.specs.TypesItems.{chosen_of};
 
-use crate::Scope;
-use crate::chosen::{ListItem, chosen};
 use crate::frame::Frame;
-use crate::grouped::kind_of;
 use sq_ast::{ExprTree, ItemTree};
 use sq_catalog::Column;
 use sq_expr::Expr;
+use sq_scope::{ListItem, Scope, chosen, kind_of};
 use sq_value::{NoMemory, Str};
 use sqlite_items::Items;
 use std::alloc::Global;
@@ -59,7 +58,7 @@ fn alias_or_name(alloc: Global, alias: &Option<Str>, expr: &ExprTree) -> Result<
     }
 }
 
-#[tactic(auto, using(crate::proofs::TypesTrees::name_forms))]
+#[tactic(auto, using(sq_scope::proofs::TypesTrees::name_forms))]
 fn plain_name(alloc: Global, expr: &ExprTree) -> Result<Str, NoMemory>
     ensures { IfOk result (λ name. name ≡ unwrap_or (plain_name (out-ExprTree expr.now)) []) }
 {

@@ -1,5 +1,7 @@
-ghost use Rattle.std.specs.Prelude.{◌≡◌, ◌<◌, ◌-◌, ◌^◌, ◌++◌, ◌∷◌, [], ℕ, None as Nothing, Some, Err, IfErr, IfOk, OnOk, length, map};
+//! The program that statements mean, statement by statement.
+ghost use Rattle.std.specs.Prelude.{◌≡◌, ◌<◌, ◌-◌, ◌^◌, ◌++◌, ◌∷◌, [], ℕ, None as Nothing, Some, Err, false, IfErr, IfOk, OnOk, length, map};
 ghost use Rattle.std.specs.List.{AllByRecursion};
+ghost use Rattle.sq_catalog.specs.Names.{is_named};
 ghost use Rattle.sq_typed.specs.Checked.{Spelling};
 ghost use Rattle.sq_typed.specs.Faults.{described, first_kind, refused};
 ghost use Rattle.sq_typed.specs.Programs.{Typed, is_printed, kind_named, table_column, with_body};
@@ -9,7 +11,7 @@ ghost use Rattle.sq_check.specs.declared.program.CheckFault.TheVariants.{Fault, 
 use crate::statement::first_fault;
 use crate::typed::typed_query;
 use sq_ast::{Body, ColumnTree, Flavour, Statement, TypeName};
-use sq_catalog::{Catalog, Column, Relation, RelationKind};
+use sq_catalog::{Catalog, CatalogFault, Column, Relation, RelationKind};
 use sq_expr::Kind;
 use sq_typed::{CheckKind, Program, Query};
 use sq_value::NoMemory;
@@ -82,6 +84,7 @@ fn create(
     body: &Body,
 ) -> Result<(), NoMemory>
     requires few { length catalog.old < 2 ^ 32 - 1 }
+    requires new_name { is_named (described catalog.old body.now).name catalog.old ≡ false }
     ensures { OnOk result (record { catalog = catalog.new; queries = queries.new } ≡ with_body (record { catalog = catalog.old; queries = queries.old }) body.now) }
 {
     match body {
@@ -115,12 +118,13 @@ fn create(
 /// Adds a relation. The answer is `NoMemory` where memory runs out.
 fn add(alloc: Global, catalog: &mut Catalog, relation: Relation) -> Result<(), NoMemory>
     requires few { length catalog.old < 2 ^ 32 - 1 }
+    requires new_name { is_named relation.name catalog.old ≡ false }
     ensures { OnOk result (catalog.new ≡ catalog.old ++ relation ∷ []) }
 {
     match catalog.add(alloc, relation) {
         Ok(()) => Ok(()),
-        // Names are tested before, so memory is what is wanting.
-        Err(_) => Err(NoMemory),
+        Err(CatalogFault::DuplicateName) => unreachable!(),
+        Err(CatalogFault::Memory) => Err(NoMemory),
     }
 }
 

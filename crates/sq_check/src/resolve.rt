@@ -5,7 +5,7 @@ ghost use Rattle.sq_ast.specs.declared.query.QueryTree.TheVariants as tree;
 ghost use Rattle.sq_typed.specs.Resolved.{Resolved as ResolvedQuery, resolved};
 ghost use Rattle.sq_typed.proofs.QueryEquations.{resolved_joined, resolved_source};
 ghost use Rattle.sq_check.specs.QueriesFound.{Gives, GivesAll, GivesBlock, GivesScope, GivesSource, SoFar, block_repeats, has_same_columns, joined_repeats, operand_repeats, repeats_in, source_repeats};
-ghost use Rattle.sq_check.specs.Scoped.{scoped_by};
+ghost use Rattle.sq_scope.specs.Scoped.{scoped_by};
 ghost use Rattle.sq_check.specs.declared.findings.Findings.{Findings as Found};
 ghost use Rattle.sq_check.specs.declared.resolve.Stop.TheVariants.{Memory, Repeated};
 ghost use Rattle.sq_check.specs.declared.resolve.Wanted.{Wanted as Asked};
@@ -15,9 +15,9 @@ use crate::columns::{chosen_count, distinct_columns, first_columns};
 use crate::findings::Findings;
 use crate::lookup::{columns_named, source_name};
 use crate::widen::widened;
-use crate::{Columns, Scope, Source};
 use sq_ast::{BlockTree, JoinedTree, QueryTree, SourceTree};
 use sq_catalog::{Catalog, Column};
+use sq_scope::{Columns, Scope, Source};
 use sq_value::NoMemory;
 use sqlite_items::Items;
 use std::alloc::{AllocError, AllocFailed, Global};
@@ -35,7 +35,7 @@ pub(crate) enum Wanted {
 #[derive(Debug, Drop)]
 pub(crate) struct Shape {
     pub(crate) columns: Items<Column>,
-    pub(crate) count: u64,
+    pub(crate) count: u128,
 }
 
 /// Why a query was not gone through to its end.
@@ -216,7 +216,7 @@ fn distinct_shape(alloc: Global, scope: &Scope, block: &BlockTree) -> Result<Sha
     let Some(columns) = distinct_columns(alloc, scope, block)? else {
         return Err(Stop::Repeated);
     };
-    let count = columns.len() as u64;
+    let count = columns.len() as u128;
     Ok(Shape { columns, count })
 }
 
@@ -228,8 +228,8 @@ fn front_shape(
 ) -> Result<Shape, NoMemory>
     ensures { IfOk result (λ shape. GivesBlock (Front limit) (scoped_by scope.now block.now) shape) }
 {
-    let columns = first_columns(alloc, scope, block, limit)?;
-    let count = chosen_count(scope, block)?;
+    let columns = first_columns(alloc, scope, block, limit as u128)?;
+    let count = chosen_count(scope, block);
     Ok(Shape { columns, count })
 }
 

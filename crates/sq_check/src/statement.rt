@@ -9,17 +9,12 @@ ghost use Rattle.sq_check.specs.QueriesFaults.{later_kinds};
 
 use crate::findings::Findings;
 use crate::resolve::{Stop, Wanted, resolve};
-use crate::{names_fault, repeats};
 use sq_ast::{Body, ColumnTree, QueryTree};
 use sq_catalog::Catalog;
-use sq_typed::CheckKind;
+use sq_scope::{names_fault, repeats};
+use sq_typed::{CheckKind, MOST_COLUMNS, MOST_STATEMENTS};
 use sq_value::{NoMemory, Str};
 use std::alloc::Global;
-
-// How many statements a program may have, and columns a relation.
-const MOST_STATEMENTS: usize = 256;
-
-const MOST_COLUMNS: u64 = 64;
 
 /// The first kind of fault, in their order, of what a statement creates behind so many statements that created these
 /// relations. The answer is `NoMemory` where memory runs out.
@@ -54,7 +49,7 @@ fn table_fault(
     if has_same_columns(alloc, columns)? {
         return Ok(Some(CheckKind::DuplicateColumn));
     }
-    if is_too_much(before, columns.len() as u64) {
+    if is_too_much(before, columns.len() as u128) {
         return Ok(Some(CheckKind::Limit));
     }
     Ok(None)
@@ -72,10 +67,10 @@ fn has_same_columns(alloc: Global, columns: &[ColumnTree]) -> Result<bool, NoMem
 }
 
 /// Whether a statement behind so many others is one too many, or has more columns than a relation may have.
-fn is_too_much(before: usize, columns: u64) -> bool
-    ensures { result ≡ (nat_le 256 before || nat_lt 64 columns) }
+fn is_too_much(before: usize, columns: u128) -> bool
+    ensures { result ≡ (nat_le MOST_STATEMENTS before || nat_lt MOST_COLUMNS columns) }
 {
-    before >= MOST_STATEMENTS || columns > MOST_COLUMNS
+    before >= MOST_STATEMENTS || columns > MOST_COLUMNS as u128
 }
 
 fn view_fault(

@@ -7,15 +7,15 @@ ghost use Rattle.sq_typed.specs.Resolved.{resolved, widened as wider_columns};
 ghost use Rattle.sq_typed.specs.Selected.{block_columns};
 ghost use Rattle.sq_typed.proofs.QueryEquations.{resolved_joined, resolved_source};
 ghost use Rattle.sq_check.specs.QueriesTyped.{IsTyped, HasSources, HasSource, items_from, joined_with, step_of};
-ghost use Rattle.sq_check.specs.Scoped.{scoped_by};
+ghost use Rattle.sq_scope.specs.Scoped.{scoped_by};
 
 use crate::columns::{chosen_count, first_columns};
 use crate::lookup::{columns_named, source_name};
 use crate::typed_block::{typed_block, typed_join};
 use crate::widen::widened;
-use crate::{Columns, Scope, Source};
 use sq_ast::{BlockTree, JoinedTree, QueryTree, SourceTree, StepTree};
 use sq_catalog::{Catalog, Column};
+use sq_scope::{Columns, Scope, Source};
 use sq_typed::{FromItem, Origin, Query, SetStep};
 use sq_value::{NoMemory, Str};
 use sqlite_items::{Boxed, Items};
@@ -191,6 +191,5 @@ fn typed_joins(
 fn all_columns(alloc: Global, scope: &Scope, block: &BlockTree) -> Result<Items<Column>, NoMemory>
     ensures { IfOk result (λ columns. columns ≡ block_columns (scoped_by scope.now block.now)) }
 {
-    let count = chosen_count(scope, block)?;
-    first_columns(alloc, scope, block, count as usize)
+    first_columns(alloc, scope, block, chosen_count(scope, block))
 }

@@ -1,21 +1,19 @@
+//! The typed form of a block over typed sources.
 ghost use Rattle.std.specs.Prelude.{◌≡◌, IfOk, map, option_map, take};
 ghost use Rattle.std.specs.List.{flat_map};
 ghost use Rattle.sq_typed.specs.Numbered.{row_cond};
 ghost use Rattle.sq_typed.specs.Resolved.{typed_join};
 ghost use Rattle.sq_typed.specs.Selected.{written_out};
-ghost use Rattle.sq_check.specs.Scoped.{scoped_by};
+ghost use Rattle.sq_scope.specs.Scoped.{scoped_by};
 ghost use Rattle.sq_check.specs.TypesBlockForms.{block_over, grouping_of};
 ghost use Rattle.sq_check.specs.TypesFrames.{frame_item};
-ghost use Rattle.sq_check.specs.TypesGroups.{over_group_cond};
+ghost use Rattle.sq_scope.specs.TypesGroups.{over_group_cond};
 
-use crate::Scope;
 use crate::frame::Frame;
-use crate::grouped::{Groups, group_cond};
 use crate::listed::push_exprs;
-use crate::numbered::row_cond;
-use crate::row::Row;
 use sq_ast::{BlockTree, CondTree, ItemTree, JoinTree};
 use sq_expr::{Cond, Expr};
+use sq_scope::{Groups, Row, Scope, group_cond, row_cond};
 use sq_typed::{Block, FromItem, FromJoin, Grouping, Query};
 use sq_value::NoMemory;
 use sqlite_items::{Boxed, Items};

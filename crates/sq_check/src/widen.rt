@@ -39,12 +39,13 @@ fn are_comparable(a: Kind, b: Kind) -> bool
 {
     match (a, b) {
         (Kind::Text, Kind::Text) => true,
-        (Kind::Text, _) | (_, Kind::Text) => false,
-        _ => true,
+        (Kind::Text, Kind::Integer | Kind::Bigint) => false,
+        (Kind::Integer | Kind::Bigint, Kind::Text) => false,
+        (Kind::Integer | Kind::Bigint, Kind::Integer | Kind::Bigint) => true,
     }
 }
 
-/// These columns, each of the wider kind where the other list has one at its place.
+/// These columns, each of the wider kind if the other list has one at its place.
 pub(crate) fn widened(
     alloc: Global,
     columns: &[Column],
@@ -73,12 +74,13 @@ fn wider_at(kind: Kind, others: &[Column], i: usize) -> Kind
     }
 }
 
-/// `BIGINT` where one of the two is.
+/// The kind, or `BIGINT` for an `INTEGER` beside a `BIGINT`.
 fn wider(kind: Kind, other: Kind) -> Kind
     ensures { result ≡ wider_kind kind other }
 {
     match (kind, other) {
         (Kind::Integer, Kind::Bigint) => Kind::Bigint,
-        _ => kind,
+        (Kind::Integer, Kind::Integer | Kind::Text) => Kind::Integer,
+        (Kind::Bigint | Kind::Text, _) => kind,
     }
 }

@@ -1,7 +1,7 @@
 use Rattle.std.specs.List.{list_any}
 use Rattle.sq_typed.specs.Selected.{written_out}
 use Rattle.sq_check.specs.TypesBare.{bare_item}
-use Rattle.sq_check.proofs.TypesStarsOnce.{of_all}
+use Rattle.sq_scope.proofs.TypesStarsOnce.{of_all}
 use Rattle.sq_check.proofs.bare.items_are_bare.Goals as goal
 
 pub returns : goal.returns

@@ -2,7 +2,7 @@ use Rattle.std.proofs.Common.{◌≡◌, length, map, take}
 use Rattle.std.specs.List.{flat_map}
 use Rattle.sq_check.specs.TypesColumns.{up_to}
 use Rattle.sq_check.specs.TypesFrames.{frame_column}
-use Rattle.sq_check.specs.TypesItems.{chosen_of}
+use Rattle.sq_scope.specs.TypesItems.{chosen_of}
 use Rattle.sq_check.proofs.columns.add_listed.Given as goal
 
 -- the first columns of the items so far

@@ -5,7 +5,7 @@ use Rattle.sq_catalog.specs.declared.relation.Column.{Column}
 use Rattle.sq_typed.specs.Faults.{names}
 use Rattle.sq_typed.specs.Scopes.{repeats}
 use Rattle.sq_typed.specs.Selected.{chosen, written_out}
-use Rattle.sq_check.specs.Scoped.{scoped_by}
+use Rattle.sq_scope.specs.Scoped.{scoped_by}
 use Rattle.sq_check.specs.TypesFrames.{frame_column}
 use Rattle.sq_check.proofs.TypesFrames.{all_columns}
 use Rattle.sq_check.proofs.columns.distinct_columns.Goals as goal

@@ -1,7 +1,7 @@
 use Rattle.std.proofs.Common.{map, take, ap, ◌∙◌}
 use Rattle.std.specs.List.{flat_map}
 use Rattle.sq_typed.specs.Selected.{chosen, written_out}
-use Rattle.sq_check.specs.Scoped.{scoped_by}
+use Rattle.sq_scope.specs.Scoped.{scoped_by}
 use Rattle.sq_check.specs.TypesFrames.{frame_column}
 use Rattle.sq_check.proofs.TypesFrames.{all_columns}
 use Rattle.sq_check.proofs.columns.first_columns.Goals as goal

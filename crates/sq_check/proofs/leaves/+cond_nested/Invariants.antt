@@ -1,7 +1,7 @@
 use Rattle.std.proofs.Common.{◌≡◌, take}
 use Rattle.std.specs.List.{list_any}
 use Rattle.sq_typed.specs.Leaves.{exprs_in}
-use Rattle.sq_check.specs.TypesLeaves.{has_nested_call}
+use Rattle.sq_scope.specs.TypesLeaves.{has_nested_call}
 use Rattle.sq_check.proofs.leaves.+cond_nested.Given as goal
 
 -- whether a call nests in the conditions so far

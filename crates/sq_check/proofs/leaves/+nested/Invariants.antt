@@ -1,6 +1,6 @@
 use Rattle.std.proofs.Common.{◌≡◌, take}
 use Rattle.std.specs.List.{list_any}
-use Rattle.sq_check.specs.TypesLeaves.{has_nested_call}
+use Rattle.sq_scope.specs.TypesLeaves.{has_nested_call}
 use Rattle.sq_check.proofs.leaves.+nested.Given as goal
 
 -- whether a call nests in the terms so far

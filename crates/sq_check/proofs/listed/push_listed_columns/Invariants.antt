@@ -1,6 +1,6 @@
 use Rattle.std.proofs.Common.{◌≡◌, ◌++◌, map, take}
 use Rattle.sq_check.specs.TypesFrames.{frame_column}
-use Rattle.sq_check.specs.TypesItems.{chosen_of}
+use Rattle.sq_scope.specs.TypesItems.{chosen_of}
 use Rattle.sq_check.proofs.listed.push_listed_columns.Given as goal
 
 -- the columns of the items so far are there

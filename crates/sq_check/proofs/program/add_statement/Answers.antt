@@ -1,7 +1,10 @@
 use Rattle.std.proofs.Common.{◌≡◌, sym, ap, ◌∙◌, arith, rules}
 use Rattle.sq_typed.specs.Faults.{described}
-use Rattle.sq_check.proofs.QueriesProgram.{few_relations}
+use Rattle.sq_check.proofs.QueriesProgram.{few_relations, new_name}
 use Rattle.sq_check.proofs.program.add_statement.Goals as goal
 
 pub create-requires : goal.create-requires
-create-requires c = record { few = few_relations c.args.before c.args.catalog.now (described c.args.catalog.now c.args.statement.now.body) c.requires (sym c.in_ok-kind.ensures ∙ c.in-None.is) }
+create-requires c = record {
+  few = few_relations c.args.before c.args.catalog.now (described c.args.catalog.now c.args.statement.now.body) c.requires (sym c.in_ok-kind.ensures ∙ c.in-None.is);
+  new_name = new_name c.args.before c.args.catalog.now (described c.args.catalog.now c.args.statement.now.body) (sym c.in_ok-kind.ensures ∙ c.in-None.is);
+}

@@ -1,7 +1,0 @@
-use Rattle.std.proofs.Common.{◌≡◌, take}
-use Rattle.sq_check.specs.TypesGroups.{call_kinds}
-use Rattle.sq_check.proofs.grouped.call_kinds.Given as goal
-
--- the kinds of the calls so far
-abbrev pub invariant-loop-call : goal.invariant-loop-call
-invariant-loop-call l = l.typed ≡ call_kinds l.kinds (take l.call-index l.calls)

@@ -1,7 +1,0 @@
-use Rattle.std.proofs.Common.{◌≡◌, take}
-use Rattle.sq_check.specs.NamesIndex.{spots_from, spots_of}
-use Rattle.sq_check.proofs.index.placed.Given as goal
-use Rattle.sq_typed.specs.Scopes.{Text}
-
-abbrev pub invariant-loop-i : goal.invariant-loop-i
-invariant-loop-i l = (q : Text) → spots_of l.by_column q ≡ spots_from 0 0 (take l.i l.sources) q

@@ -1,5 +1,0 @@
-use Rattle.sq_check.proofs.NamesPlaces.{SeenSoFar}
-use Rattle.sq_check.proofs.sight.Sight.among.Given as goal
-
-abbrev pub invariant-loop-source : goal.invariant-loop-source
-invariant-loop-source l = SeenSoFar l.sight l.sources l.places l.named l.source-index

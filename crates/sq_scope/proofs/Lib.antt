@@ -1,0 +1,11 @@
+pub mod NamesScopes
+pub mod NamesPlaces
+pub mod NamesBuilt
+pub mod NamesReferences
+pub mod NamesTrees
+pub mod NamesTexts
+pub mod TypesTrees
+pub mod TypesLists
+pub mod TypesCalls
+pub mod TypesStars
+pub mod TypesStarsOnce

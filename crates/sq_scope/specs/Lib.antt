@@ -1,0 +1,9 @@
+pub mod Scoped
+pub mod NamesFound
+pub mod NamesIndex
+pub mod NamesReferences
+pub mod NamesFaults
+pub mod TypesLeaves
+pub mod TypesNumbered
+pub mod TypesGroups
+pub mod TypesItems
