@@ -24,7 +24,8 @@ use Rattle.sq_ast.specs.declared.statement.TypeName.TheVariants as type
 use Rattle.sq_typed.specs.Faults.{refused}
 use Rattle.sq_typed.specs.Scopes.{Text}
 use Rattle.sq_typed.specs.declared.check_kind.CheckKind.{CheckKind}
-use Rattle.sq_typed.specs.declared.check_kind.CheckKind.TheVariants.{DuplicateName, UnknownRelation, UnnamedColumn, DuplicateColumn, UnknownColumn, AmbiguousColumn, NestedAggregate, NotGrouped, ColumnCount, TypeMismatch, TooWide, Limit}
+use Rattle.sq_typed.specs.declared.check_kind.CheckKind.TheVariants.{DuplicateName, UnknownRelation, UnnamedColumn, DuplicateColumn, UnknownColumn, AmbiguousColumn}
+use Rattle.sq_typed.specs.declared.check_kind.CheckKind.TheVariants.{NestedAggregate, NotGrouped, ColumnCount, TypeMismatch, TooWide, Limit}
 
 -- ---- how statements are written out
 

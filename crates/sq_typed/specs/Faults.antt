@@ -28,7 +28,8 @@ use Rattle.sq_typed.specs.Scopes.{Text, Scope, repeats, places, number_of, kinds
 use Rattle.sq_typed.specs.Selected.{Scoped, Chosen, Starred, Written, chosen, item_name, having_leaves, is_grouped, keys, call_trees, block_calls, block_columns, group_cond, group_kinds, item_expr, item_kinds}
 use Rattle.sq_typed.specs.declared.limits.TheConstants.{MOST_COLUMNS, MOST_SOURCES, MOST_STATEMENTS}
 use Rattle.sq_typed.specs.declared.check_kind.CheckKind.{CheckKind}
-use Rattle.sq_typed.specs.declared.check_kind.CheckKind.TheVariants.{DuplicateName, UnknownRelation, UnnamedColumn, DuplicateColumn, UnknownColumn, AmbiguousColumn, NestedAggregate, NotGrouped, ColumnCount, TypeMismatch, TooWide, Limit}
+use Rattle.sq_typed.specs.declared.check_kind.CheckKind.TheVariants.{DuplicateName, UnknownRelation, UnnamedColumn, DuplicateColumn, UnknownColumn, AmbiguousColumn}
+use Rattle.sq_typed.specs.declared.check_kind.CheckKind.TheVariants.{NestedAggregate, NotGrouped, ColumnCount, TypeMismatch, TooWide, Limit}
 
 -- what a statement creates, the leftmost block of a view's query, and what stands in it
 pub record Described : Type 0 where

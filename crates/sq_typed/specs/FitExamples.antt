@@ -21,7 +21,11 @@ columns_fit = HasKinds (select (source Comma 0 ∷ []) (expr.Column 0 ∷ expr.C
 
 -- x.a, COUNT(*), MAX(y.s) FROM t x LEFT JOIN t y ON x.a = y.a GROUP BY x.a HAVING x.a < 3
 abbrev pub a_group_fits : Type 0
-a_group_fits = HasKinds (block false (source Comma 0 ∷ source (Left (equal 0 2)) 0 ∷ []) None (grouped (0 ∷ []) (count_all ∷ call Max 3 ∷ []) (Some (cond.Compare Lt (expr.Column 0) (expr.Number 3)))) (expr.Column 0 ∷ expr.Column 1 ∷ expr.Column 2 ∷ [])) true (Integer ∷ Bigint ∷ Text ∷ [])
+a_group_fits =
+    HasKinds
+    (block false (source Comma 0 ∷ source (Left (equal 0 2)) 0 ∷ []) None
+    (grouped (0 ∷ []) (count_all ∷ call Max 3 ∷ []) (Some (cond.Compare Lt (expr.Column 0) (expr.Number 3)))) (expr.Column 0 ∷ expr.Column 1 ∷ expr.Column 2 ∷ []))
+    true (Integer ∷ Bigint ∷ Text ∷ [])
 
 -- a FROM t UNION ALL 1 FROM t
 abbrev pub a_union_is_wider : Type 0

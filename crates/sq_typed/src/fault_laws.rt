@@ -15,7 +15,7 @@ pub fn one_fault()
     ensures first { (before : List StatementTree) (s : StatementTree) (kind : Kind) → HasFault before s kind → IsFirst (has_kind before s) kinds_in_order kind }
 {}
 
-/// `refused` names the first statement that has a fault, and nothing exactly where no statement has one.
+/// `refused` names the first statement that has a fault, and nothing exactly if no statement has one.
 #[tactic(auto, using(crate::proofs::FaultLaws::faults))]
 pub fn one_refusal()
     ensures accepted { (statements : List StatementTree) → refused statements ≡ None → HaveNoFault statements }

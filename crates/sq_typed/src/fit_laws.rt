@@ -1,5 +1,5 @@
 //! What holds of queries and programs that fit, each as the contract of a function that does nothing.
-ghost use Rattle.std.specs.Prelude.{◌≡◌, ◌≤◌, ◌↔◌, ◌^◌, ℕ, false, true, List, [], None as Nothing, Some, flat_map, length, map, option_to_list};
+ghost use Rattle.std.specs.Prelude.{◌≡◌, ◌≤◌, ◌↔◌, ◌^◌, false, true, List, [], None as Nothing, Some, flat_map, length, map, option_to_list};
 ghost use Rattle.std.specs.List.{AllByRecursion};
 ghost use Rattle.sq_token.specs.declared.token.Token.{Token as SpelledToken};
 ghost use Rattle.sq_ast.specs.Spelling.{Spells};
@@ -14,7 +14,8 @@ ghost use Rattle.sq_typed.specs.declared.query.Block.{Block as Selected, out-Blo
 ghost use Rattle.sq_typed.specs.declared.query.Query.TheVariants as query;
 ghost use Rattle.sq_typed.specs.Blocks.{item_rows, selected, tested_calls};
 ghost use Rattle.sq_typed.specs.Faults.{refused};
-ghost use Rattle.sq_typed.specs.Fit.{AreAllOfKinds, Fits, GivesKinds, HoldsKinds, Pairwise, ProgramFits, SourceGivesKinds, TablesAreOfKinds, grouped_kinds, item_row_kinds, joined_kinds, kinded_source, kinds_given, sources_fit, suits, suits_cond, view_kinds};
+ghost use Rattle.sq_typed.specs.Fit.{AreAllOfKinds, Fits, GivesKinds, HoldsKinds, Pairwise, ProgramFits, SourceGivesKinds, TablesAreOfKinds};
+ghost use Rattle.sq_typed.specs.Fit.{grouped_kinds, item_row_kinds, joined_kinds, kinded_source, kinds_given, sources_fit, suits, suits_cond, view_kinds};
 ghost use Rattle.sq_typed.specs.FitExamples as examples;
 ghost use Rattle.sq_typed.specs.From.{Row, Source, from, kept};
 ghost use Rattle.sq_typed.specs.Laws.{QueriesFit};
@@ -26,33 +27,40 @@ ghost use Rattle.sq_typed.specs.Tables.{Tables};
 ghost use Rattle.sq_typed.specs.Views.{Meant, verdict, views};
 ghost use Rattle.sq_typed.specs.Written.{AllWritten};
 
-/// The tests of what fits are exact: an expression or a condition passes where it has a type and is computed in 128 bits. In
+/// The tests of what fits are exact: an expression or a condition passes if it has a type and is computed in 128 bits. In
 /// a block that fits, the sources fit with their conditions of ON; WHERE and the arguments of calls suit the columns of all
 /// sources, HAVING suits the group row, and the items suit the columns of the row that they are over.
 #[tactic(auto, using(crate::proofs::FitTests::suits_is, crate::proofs::FitTests::suits_cond_is, crate::proofs::FitTests::where_suits, crate::proofs::FitTests::items_suit, crate::proofs::FitTests::sources_suit, crate::proofs::FitTests::having_suits, crate::proofs::FitTests::arguments_suit))]
 pub fn what_fits_suits()
     ensures expression { (kinds : List ColumnKind) (e : Expression) → (suits kinds e ≡ true) ↔ Suits kinds e }
     ensures condition { (kinds : List ColumnKind) (c : Condition) → (suits_cond kinds c ≡ true) ↔ SuitsCond kinds c }
-    ensures filter { (relations : List (List ColumnKind)) (b : Selected) → Fits relations (query.Block b) → AllByRecursion (SuitsCond (joined_kinds (map (kinded_source relations) (out-Block b).sources))) (option_to_list (out-Block b).filter) }
-    ensures items { (relations : List (List ColumnKind)) (b : Selected) → Fits relations (query.Block b) → AllByRecursion (Suits (item_row_kinds (joined_kinds (map (kinded_source relations) (out-Block b).sources)) (out-Block b).grouping)) (out-Block b).items }
+    ensures filter { (relations : List (List ColumnKind)) (b : Selected) → Fits relations (query.Block b) →
+        AllByRecursion (SuitsCond (joined_kinds (map (kinded_source relations) (out-Block b).sources))) (option_to_list (out-Block b).filter) }
+    ensures items { (relations : List (List ColumnKind)) (b : Selected) → Fits relations (query.Block b) →
+        AllByRecursion (Suits (item_row_kinds (joined_kinds (map (kinded_source relations) (out-Block b).sources)) (out-Block b).grouping)) (out-Block b).items }
     ensures sources { (relations : List (List ColumnKind)) (b : Selected) → Fits relations (query.Block b) → sources_fit [] (map (kinded_source relations) (out-Block b).sources) ≡ true }
-    ensures having { (relations : List (List ColumnKind)) (b : Selected) → Fits relations (query.Block b) → (g : Groups) → (out-Block b).grouping ≡ Some g → AllByRecursion (SuitsCond (grouped_kinds (joined_kinds (map (kinded_source relations) (out-Block b).sources)) g)) (option_to_list g.having) }
-    ensures arguments { (relations : List (List ColumnKind)) (b : Selected) → Fits relations (query.Block b) → (g : Groups) → (out-Block b).grouping ≡ Some g → AllByRecursion (λ c. AllByRecursion (Suits (joined_kinds (map (kinded_source relations) (out-Block b).sources))) (option_to_list c.arg)) g.calls }
+    ensures having { (relations : List (List ColumnKind)) (b : Selected) → Fits relations (query.Block b) → (g : Groups) → (out-Block b).grouping ≡ Some g →
+        AllByRecursion (SuitsCond (grouped_kinds (joined_kinds (map (kinded_source relations) (out-Block b).sources)) g)) (option_to_list g.having) }
+    ensures arguments { (relations : List (List ColumnKind)) (b : Selected) → Fits relations (query.Block b) → (g : Groups) → (out-Block b).grouping ≡ Some g →
+        AllByRecursion (λ c. AllByRecursion (Suits (joined_kinds (map (kinded_source relations) (out-Block b).sources))) (option_to_list c.arg)) g.calls }
 {}
 
-/// The rows of FROM and those that WHERE keeps are of the kinds of all sources, one behind the other. Where no tested number
+/// The rows of FROM and those that WHERE keeps are of the kinds of all sources, one behind the other. If no tested number
 /// is outside BIGINT, the rows of groups of at most 2^61 rows are of the kinds of the group row, and each item is of its kind.
 #[tactic(auto, using(crate::proofs::FitRows::rows_of_from, crate::proofs::FitRows::rows_of_where, crate::proofs::FitRows::rows_of_groups_are, crate::proofs::FitRows::rows_of_items))]
 pub fn rows_of_blocks_are_of_kinds()
     ensures joined { (sources : List Source) (kinds : List (List ColumnKind)) → Pairwise SourceGivesKinds sources kinds → AreAllOfKinds (from sources) (flat_map (λ ks. ks) kinds) }
     ensures kept { (conds : List Condition) (sources : List Source) (kinds : List (List ColumnKind)) → Pairwise SourceGivesKinds sources kinds → AreAllOfKinds (kept conds sources) (flat_map (λ ks. ks) kinds) }
-    ensures grouped { (kinds : List ColumnKind) (g : Groups) (rows : List Row) → length rows ≤ 2 ^ 61 → AreAllOfKinds rows kinds → AllByRecursion (λ x. is_outside x ≡ false) (tested_calls (Some g) rows) → AreAllOfKinds (item_rows (Some g) rows) (grouped_kinds kinds g) }
-    ensures items { (kinds : List ColumnKind) (items : List Expression) (rows : List Row) → AreAllOfKinds rows kinds → AllByRecursion (λ x. is_outside x ≡ false) (flat_map (λ row. row) (selected items rows)) → AreAllOfKinds (selected items rows) (map (kind_of kinds) items) }
+    ensures grouped { (kinds : List ColumnKind) (g : Groups) (rows : List Row) → length rows ≤ 2 ^ 61 → AreAllOfKinds rows kinds →
+        AllByRecursion (λ x. is_outside x ≡ false) (tested_calls (Some g) rows) → AreAllOfKinds (item_rows (Some g) rows) (grouped_kinds kinds g) }
+    ensures items { (kinds : List ColumnKind) (items : List Expression) (rows : List Row) → AreAllOfKinds rows kinds →
+        AllByRecursion (λ x. is_outside x ≡ false) (flat_map (λ row. row) (selected items rows)) → AreAllOfKinds (selected items rows) (map (kind_of kinds) items) }
 {}
 
-/// A query that fits relations with rows of their kinds gives rows of its kinds, where nothing of it is out of range.
+/// A query that fits relations with rows of their kinds gives rows of its kinds, if nothing of it is out of range.
 pub fn rows_of_queries_are_of_kinds()
-    ensures { (relations : List Contents) (kinds : List (List ColumnKind)) → Pairwise HoldsKinds relations kinds → (q : Selection) → Fits kinds q → has_range_fault (answer relations q) ≡ false → GivesKinds (answer relations q) (kinds_given kinds q) }
+    ensures { (relations : List Contents) (kinds : List (List ColumnKind)) → Pairwise HoldsKinds relations kinds → (q : Selection) → Fits kinds q →
+        has_range_fault (answer relations q) ≡ false → GivesKinds (answer relations q) (kinds_given kinds q) }
 {}
 
 /// A query that fits gives as many columns as it has kinds.
@@ -62,7 +70,7 @@ pub fn what_fits_is_as_wide()
     ensures program { (p : Meant) → ProgramFits [] p.queries p.catalog → QueriesFit [] p.queries p.catalog }
 {}
 
-/// Where each view's query fits, the tables hold rows of their kinds and all views can be shown, the rows of each view are of
+/// If each view's query fits, the tables hold rows of their kinds and all views can be shown, the rows of each view are of
 /// the kinds of its columns.
 #[tactic(auto, using(crate::proofs::FitPrograms::views_are_of_kinds))]
 pub fn rows_of_views_are_of_kinds()
@@ -70,7 +78,7 @@ pub fn rows_of_views_are_of_kinds()
 {}
 
 /// Statements that tokens spell and of which none has a fault mean a program whose queries fit, and give as many columns as the
-/// views have. Over tables that hold rows of their kinds, and where all views can be shown, the rows of each view are of the
+/// views have. Over tables that hold rows of their kinds, and if all views can be shown, the rows of each view are of the
 /// kinds of its columns.
 #[tactic(auto, using(crate::proofs::FitStatements::program_fits, crate::proofs::FitStatements::spelled_program_fits, crate::proofs::FitStatements::spelled_queries_fit, crate::proofs::FitStatements::spelled_views_are_of_kinds, crate::proofs::WrittenLemmas::spelled_is_written))]
 pub fn accepted_statements_fit()
@@ -78,7 +86,9 @@ pub fn accepted_statements_fit()
     ensures trees { (statements : List StatementTree) → AllWritten statements → refused statements ≡ Nothing → ProgramFits [] (program_of statements).queries (program_of statements).catalog }
     ensures fits { (tokens : List SpelledToken) (statements : List StatementTree) → Spells tokens statements → refused statements ≡ Nothing → ProgramFits [] (program_of statements).queries (program_of statements).catalog }
     ensures widths { (tokens : List SpelledToken) (statements : List StatementTree) → Spells tokens statements → refused statements ≡ Nothing → QueriesFit [] (program_of statements).queries (program_of statements).catalog }
-    ensures rows { (tokens : List SpelledToken) (statements : List StatementTree) → Spells tokens statements → refused statements ≡ Nothing → (tables : Tables) → TablesAreOfKinds tables (program_of statements).catalog → verdict (program_of statements) tables ≡ Nothing → Pairwise GivesKinds (views (program_of statements) tables) (view_kinds (program_of statements).catalog) }
+    ensures rows { (tokens : List SpelledToken) (statements : List StatementTree) → Spells tokens statements → refused statements ≡ Nothing → (tables : Tables) →
+        TablesAreOfKinds tables (program_of statements).catalog → verdict (program_of statements) tables ≡ Nothing →
+        Pairwise GivesKinds (views (program_of statements) tables) (view_kinds (program_of statements).catalog) }
 {}
 
 /// Small queries that fit a table of an `INTEGER` and a text, or don't, as `specs/FitExamples.antt` writes them.

@@ -1,5 +1,5 @@
 //! What holds of queries over lists of rows and of updates, each as the contract of a function that does nothing.
-ghost use Rattle.std.specs.Prelude.{◌≡◌, ◌≤◌, ◌<◌, ◌+◌, ◌==◌, ◌↔◌, ℕ, Bool, true, false, if◌then◌else◌, List, [], ◌∷◌, ◌++◌, Option, Some, get_or, length, map};
+ghost use Rattle.std.specs.Prelude.{◌≡◌, ◌≤◌, ◌<◌, ◌+◌, ◌==◌, ◌↔◌, ℕ, Bool, true, if◌then◌else◌, List, [], ◌∷◌, ◌++◌, Option, Some, get_or, length, map};
 ghost use Rattle.std.specs.List.{AllByRecursion, filter};
 ghost use Rattle.std.specs.declared.result.Result.TheVariants.{Ok as Accepted, Err as Refused};
 ghost use Rattle.sq_value.specs.Count.{count};
@@ -25,7 +25,8 @@ ghost use Rattle.sq_typed.specs.Views.{Meant, views};
 ghost use Rattle.sq_typed.specs.Laws.{AreOfWidth, FirstAbsent, HasItsWidth, QueriesFit, TablesFit, deletes, inserts, last_of, rows_in, width_of_all};
 
 use crate::{
-    Block, BlockCall, CheckKind, FromItem, FromJoin, Grouping, Origin, Query, SetStep, Update,
+    Block, BlockCall, CheckKind, FromItem, FromJoin, Grouping, Origin, Program, Query, SetStep,
+    Update,
 };
 use sqlite_items::Items;
 
@@ -33,8 +34,10 @@ use sqlite_items::Items;
 /// each member is applied as soon as all sources whose columns it names are joined.
 #[tactic(auto, using(crate::proofs::WhereLemmas::where_keeps_the_last, crate::proofs::WhereLemmas::condition_keeps_the_last, crate::proofs::WhereLemmas::kept_by_condition))]
 pub fn conditions_apply_early()
-    ensures members { (conds : List Condition) (s : Source) (ss : List Source) → AllByRecursion (λ s. HasItsWidth s.answer) (s ∷ ss) → AllByRecursion (λ c. width_of (cond_columns c) ≤ width_of_all (s ∷ ss)) conds → kept conds (s ∷ ss) ≡ last_of ([] ∷ []) (stages conds (s ∷ ss)) }
-    ensures condition { (c : Condition) (s : Source) (ss : List Source) → AllByRecursion (λ s. HasItsWidth s.answer) (s ∷ ss) → width_of (cond_columns c) ≤ width_of_all (s ∷ ss) → filter (λ row. is_true (truth c row)) (from (s ∷ ss)) ≡ last_of ([] ∷ []) (stages (members c) (s ∷ ss)) }
+    ensures members { (conds : List Condition) (s : Source) (ss : List Source) → AllByRecursion (λ s. HasItsWidth s.answer) (s ∷ ss) →
+        AllByRecursion (λ c. width_of (cond_columns c) ≤ width_of_all (s ∷ ss)) conds → kept conds (s ∷ ss) ≡ last_of ([] ∷ []) (stages conds (s ∷ ss)) }
+    ensures condition { (c : Condition) (s : Source) (ss : List Source) → AllByRecursion (λ s. HasItsWidth s.answer) (s ∷ ss) → width_of (cond_columns c) ≤ width_of_all (s ∷ ss) →
+        filter (λ row. is_true (truth c row)) (from (s ∷ ss)) ≡ last_of ([] ∷ []) (stages (members c) (s ∷ ss)) }
     ensures kept { (c : Condition) (sources : List Source) → kept (members c) sources ≡ filter (λ row. is_true (truth c row)) (from sources) }
 {}
 
@@ -51,7 +54,8 @@ pub fn rows_of_blocks_have_their_width()
 /// A chain of set operations over rows of one width gives rows of this width.
 #[tactic(auto, using(crate::proofs::AnswerLemmas::chain_width, crate::proofs::AnswerLemmas::intersect_width))]
 pub fn rows_of_chains_have_their_width()
-    ensures chain { (first : Answer) (rest : List (Operation × Answer)) → HasItsWidth first → AllByRecursion (λ s. AreOfWidth first.width s.1.rows) rest → HasItsWidth (chain_answer (λ rows s. set_rows s.0 rows s.1.rows) (λ s. s.1) first rest) }
+    ensures chain { (first : Answer) (rest : List (Operation × Answer)) → HasItsWidth first → AllByRecursion (λ s. AreOfWidth first.width s.1.rows) rest →
+        HasItsWidth (chain_answer (λ rows s. set_rows s.0 rows s.1.rows) (λ s. s.1) first rest) }
     ensures intersection { (first : Answer) (rest : List Answer) → HasItsWidth first → HasItsWidth (intersect_answer (first ∷ rest)) }
 {}
 
@@ -59,11 +63,13 @@ pub fn rows_of_chains_have_their_width()
 /// value of each of its columns, and so does each source of a block.
 #[tactic(auto, using(crate::proofs::ColumnLemmas::query_is_wide, crate::proofs::ColumnLemmas::sources_have_widths))]
 pub fn rows_of_queries_have_their_width()
-    ensures query { (relations : List Contents) → AllByRecursion (λ c. AreOfWidth c.width c.rows) relations → (q : Selection) (w : ℕ) → columns_given (map (λ c. c.width) relations) q ≡ Some w → ((answer relations q).width ≡ w) × AreOfWidth w (answer relations q).rows }
-    ensures sources { (relations : List Contents) → AllByRecursion (λ c. AreOfWidth c.width c.rows) relations → (b : Selected) (w : ℕ) → columns_given (map (λ c. c.width) relations) (query.Block b) ≡ Some w → AllByRecursion (λ s. HasItsWidth s.answer) (map (source_of_item relations) (out-Block b).sources) }
+    ensures query { (relations : List Contents) → AllByRecursion (λ c. AreOfWidth c.width c.rows) relations → (q : Selection) (w : ℕ) →
+        columns_given (map (λ c. c.width) relations) q ≡ Some w → ((answer relations q).width ≡ w) × AreOfWidth w (answer relations q).rows }
+    ensures sources { (relations : List Contents) → AllByRecursion (λ c. AreOfWidth c.width c.rows) relations → (b : Selected) (w : ℕ) →
+        columns_given (map (λ c. c.width) relations) (query.Block b) ≡ Some w → AllByRecursion (λ s. HasItsWidth s.answer) (map (source_of_item relations) (out-Block b).sources) }
 {}
 
-/// Where each view's query gives as many columns as the view has, and the rows of the tables have as many values as these
+/// If each view's query gives as many columns as the view has, and the rows of the tables have as many values as these
 /// have columns, the rows of all views have their width.
 #[tactic(auto, using(crate::proofs::ProgramLemmas::views_have_widths))]
 pub fn rows_of_views_have_their_width()
@@ -79,7 +85,8 @@ pub fn left_joins_have_their_pairs()
 /// What a query gives depends on the relations that it names, and on no others.
 #[tactic(auto, using(crate::proofs::RelationLemmas::relations_decide))]
 pub fn named_relations_decide()
-    ensures { (before now : List Contents) (q : Selection) → AllByRecursion (λ n. get_or before n (record { width = 0; rows = [] }) ≡ get_or now n (record { width = 0; rows = [] })) (relations_of q) → answer before q ≡ answer now q }
+    ensures { (before now : List Contents) (q : Selection) →
+        AllByRecursion (λ n. get_or before n (record { width = 0; rows = [] }) ≡ get_or now n (record { width = 0; rows = [] })) (relations_of q) → answer before q ≡ answer now q }
 {}
 
 /// How often set operations and DISTINCT give a row.
@@ -94,11 +101,12 @@ pub fn rows_are_counted()
 /// After some updates a table holds a row as often as before, and once more for each insert and once less for each delete
 /// of it.
 pub fn updates_are_counted()
-    ensures { (tables : Tables) (updates : List Change) (now : Tables) → after tables updates ≡ Accepted now → (table : ℕ) (row : Row) → count row (rows_in now table) + deletes table row updates ≡ count row (rows_in tables table) + inserts table row updates }
+    ensures { (tables : Tables) (updates : List Change) (now : Tables) → after tables updates ≡ Accepted now → (table : ℕ) (row : Row) →
+        count row (rows_in now table) + deletes table row updates ≡ count row (rows_in tables table) + inserts table row updates }
 {}
 
 /// Updates go in order: further ones go on from the tables that earlier ones left, and none is made after one that fails.
-/// Where all their tables are there, they fail exactly at the first that deletes a row which its table does not hold then.
+/// If all their tables are there, they fail exactly at the first that deletes a row which its table does not hold then.
 #[tactic(auto, using(crate::proofs::UpdateLemmas::after_append, crate::proofs::UpdateLemmas::after_fails, crate::proofs::UpdateLemmas::first_absent_is))]
 pub fn updates_go_in_order()
     ensures more { (tables : Tables) (updates more : List Change) (now : Tables) → after tables updates ≡ Accepted now → after tables (updates ++ more) ≡ after now more }
@@ -106,11 +114,13 @@ pub fn updates_go_in_order()
     ensures absent { (tables : Tables) (updates : List Change) (line : ℕ) → AllByRecursion (λ u. u.table < length tables) updates → (after tables updates ≡ Refused line) ↔ FirstAbsent tables updates line }
 {}
 
-/// Updates keep the number of tables, and the kinds of their rows, where the rows that they speak of have them too.
+/// Updates keep the number of tables, and the kinds of their rows, if the rows that they speak of have them too.
 #[tactic(auto, using(crate::proofs::UpdateLemmas::as_many_after, crate::proofs::UpdateLemmas::kinds_after))]
 pub fn updates_keep_tables()
     ensures number { (tables : Tables) (updates : List Change) (now : Tables) → after tables updates ≡ Accepted now → length now ≡ length tables }
-    ensures rows { (kinds : ℕ → List ColumnKind) (tables : Tables) (updates : List Change) (now : Tables) → after tables updates ≡ Accepted now → ((n : ℕ) → AllByRecursion (λ r. AreOfKinds r (kinds n)) (rows_in tables n)) → AllByRecursion (λ u. AreOfKinds u.row (kinds u.table)) updates → (n : ℕ) → AllByRecursion (λ r. AreOfKinds r (kinds n)) (rows_in now n) }
+    ensures rows { (kinds : ℕ → List ColumnKind) (tables : Tables) (updates : List Change) (now : Tables) → after tables updates ≡ Accepted now → ((n : ℕ) →
+        AllByRecursion (λ r. AreOfKinds r (kinds n)) (rows_in tables n)) → AllByRecursion (λ u. AreOfKinds u.row (kinds u.table)) updates → (n : ℕ) →
+        AllByRecursion (λ r. AreOfKinds r (kinds n)) (rows_in now n) }
 {}
 
 fn is_send_and_sync<T: Send + Sync>() {}
@@ -131,4 +141,9 @@ fn data_crosses_threads() {
 // So may the sources of a block, with their joins.
 fn sources_cross_threads() {
     is_send_and_sync::<Items<FromItem>>();
+}
+
+// And so may a program.
+fn programs_cross_threads() {
+    is_send_and_sync::<Program>();
 }

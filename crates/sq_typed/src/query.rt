@@ -37,7 +37,7 @@ pub struct Block {
     pub sources: Items<FromItem>,
     /// The condition of `WHERE`.
     pub filter: Option<Cond>,
-    /// There exactly where the block is grouped.
+    /// There exactly if the block is grouped.
     pub grouping: Option<Grouping>,
     pub items: Items<Expr>,
 }
@@ -75,7 +75,7 @@ pub enum Origin {
 /// A group row is the group columns, and then the values of the calls.
 #[derive(Debug, Drop)]
 pub struct Grouping {
-    /// The columns of `GROUP BY`. Empty exactly where the block is global: then all its rows are one group.
+    /// The columns of `GROUP BY`. Empty exactly if the block is global: then all its rows are one group.
     pub columns: Items<u32>,
     /// The aggregate calls, in order of first appearance.
     pub calls: Items<BlockCall>,
