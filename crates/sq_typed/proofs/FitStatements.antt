@@ -149,3 +149,6 @@ module _ (tokens : List Token) (statements : List Statement) (spelled : Spells t
 
   pub spelled_views_are_of_kinds : (tables : Tables) → TablesAreOfKinds tables (program_of statements).catalog → verdict (program_of statements) tables ≡ None → Pairwise GivesKinds (views (program_of statements) tables) (view_kinds (program_of statements).catalog)
   spelled_views_are_of_kinds tables good shown = views_are_of_kinds (program_of statements) tables spelled_program_fits good shown
+
+-- all of these
+pub ruleset spelled_fits = (program_fits, spelled_program_fits, spelled_queries_fit, spelled_views_are_of_kinds, spelled_is_written)

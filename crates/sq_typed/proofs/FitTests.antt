@@ -100,3 +100,6 @@ module _ (relations : List (List Kind)) (b : Block) (fits : Fits relations (quer
     pub arguments_suit : AllByRecursion (λ c. AllByRecursion (Suits (joined_kinds sources)) (option_to_list c.arg)) g.calls
     arguments_suit = all_weaker (λ c. call_test c ≡ true) (λ c. AllByRecursion (Suits (joined_kinds sources)) (option_to_list c.arg)) g.calls (λ c e. argument_suits (joined_kinds sources) c.func c.arg e)
         (passed call_test g.calls (and_left (list_all call_test g.calls) (may_suit (grouped_kinds (joined_kinds sources) g) g.having) calls_and_having))
+
+-- all of these
+pub ruleset what_suits = (suits_is, suits_cond_is, where_suits, items_suit, sources_suit, having_suits, arguments_suit)

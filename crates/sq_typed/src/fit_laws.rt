@@ -30,7 +30,7 @@ ghost use Rattle.sq_typed.specs.Written.{AllWritten};
 /// The tests of what fits are exact: an expression or a condition passes if it has a type and is computed in 128 bits. In
 /// a block that fits, the sources fit with their conditions of ON; WHERE and the arguments of calls suit the columns of all
 /// sources, HAVING suits the group row, and the items suit the columns of the row that they are over.
-#[tactic(auto, using(crate::proofs::FitTests::suits_is, crate::proofs::FitTests::suits_cond_is, crate::proofs::FitTests::where_suits, crate::proofs::FitTests::items_suit, crate::proofs::FitTests::sources_suit, crate::proofs::FitTests::having_suits, crate::proofs::FitTests::arguments_suit))]
+#[tactic(auto, using(crate::proofs::FitTests::what_suits))]
 pub fn what_fits_suits()
     ensures expression { (kinds : List ColumnKind) (e : Expression) → (suits kinds e ≡ true) ↔ Suits kinds e }
     ensures condition { (kinds : List ColumnKind) (c : Condition) → (suits_cond kinds c ≡ true) ↔ SuitsCond kinds c }
@@ -80,7 +80,7 @@ pub fn rows_of_views_are_of_kinds()
 /// Statements that tokens spell and of which none has a fault mean a program whose queries fit, and give as many columns as the
 /// views have. Over tables that hold rows of their kinds, and if all views can be shown, the rows of each view are of the
 /// kinds of its columns.
-#[tactic(auto, using(crate::proofs::FitStatements::program_fits, crate::proofs::FitStatements::spelled_program_fits, crate::proofs::FitStatements::spelled_queries_fit, crate::proofs::FitStatements::spelled_views_are_of_kinds, crate::proofs::WrittenLemmas::spelled_is_written))]
+#[tactic(auto, using(crate::proofs::FitStatements::spelled_fits))]
 pub fn accepted_statements_fit()
     ensures written { (tokens : List SpelledToken) (statements : List StatementTree) → Spells tokens statements → AllWritten statements }
     ensures trees { (statements : List StatementTree) → AllWritten statements → refused statements ≡ Nothing → ProgramFits [] (program_of statements).queries (program_of statements).catalog }
