@@ -5,11 +5,11 @@ use Rattle.std.specs.List.{flat_map, list_any}
 use Rattle.std.proofs.lemmas.List.Folds.{list_any-append}
 use Rattle.sq_typed.specs.Faults.{has_unknown_column, has_ambiguous_column, has_nested_aggregate, has_bare_column, has_mixed_types, has_wide_expr, has_long_list, differ_in_count, mixes_sorts}
 use Rattle.sq_typed.specs.Resolved.{Parts, Joined, together, no_parts}
-use Rattle.sq_typed.specs.Selected.{Scoped, block_columns}
+use Rattle.sq_typed.specs.Selected.{Scoped}
 use Rattle.sq_typed.specs.declared.check_kind.CheckKind.{CheckKind}
 use Rattle.sq_typed.specs.declared.check_kind.CheckKind.TheVariants.{DuplicateName, UnknownRelation, UnnamedColumn, DuplicateColumn, UnknownColumn, AmbiguousColumn, NestedAggregate, NotGrouped, ColumnCount, TypeMismatch, TooWide, Limit}
 use Rattle.sq_check.specs.declared.findings.Findings.{Findings}
-use Rattle.sq_check.specs.QueriesFound.{noted, stands, one_block, Adds, has_same_columns, joined_repeats, source_repeats}
+use Rattle.sq_check.specs.QueriesFound.{noted, stands, one_block, Adds, has_same_columns, joined_repeats}
 
 -- ---- tests
 

@@ -2,15 +2,14 @@
 use Rattle.std.proofs.Common.{◌≡◌, ◌≢◌, ℕ, zero, suc, ◌+◌, ◌<◌, ◌≤◌, List, [], ◌∷◌, ◌++◌, map, take, length, get_or, Bool, true, false, ◌||◌, refl, sym, ap, subst, ◌∙◌, arith}
 use Rattle.std.specs.Prelude.{⊤, Option, Some, None, Result, Ok, Err, MatchResult, unwrap_or}
 use Rattle.std.specs.Result.{IsErrAnd}
-use Rattle.std.specs.List.{flat_map, list_any}
+use Rattle.std.specs.List.{list_any}
 use Rattle.std.proofs.lemmas.List.{map-append, take_more}
 use Rattle.std.proofs.lemmas.List.Folds.{list_any_at, list_any-append}
 use Rattle.sq_ast.specs.declared.query.BlockTree.{BlockTree, out-BlockTree}
 use Rattle.sq_ast.specs.declared.query.JoinedTree.{JoinedTree, out-JoinedTree}
 use Rattle.sq_ast.specs.declared.query.QueryTree.{QueryTree}
-use Rattle.sq_ast.specs.declared.query.QueryTree.TheOpen.{QueryTree-F, SourceTree-F}
+use Rattle.sq_ast.specs.declared.query.QueryTree.TheOpen.{SourceTree-F}
 use Rattle.sq_ast.specs.declared.query.QueryTree.TheVariants as tree
-use Rattle.sq_ast.specs.declared.query.SetOp.{SetOp}
 use Rattle.sq_ast.specs.declared.query.SourceTree.{SourceTree}
 use Rattle.sq_ast.specs.declared.query.SourceTree.TheVariants as from
 use Rattle.sq_ast.specs.declared.query.StepTree.{StepTree}
@@ -19,7 +18,7 @@ use Rattle.sq_catalog.specs.declared.relation.Column.{Column}
 use Rattle.sq_typed.specs.declared.query.Query.{Query}
 use Rattle.sq_typed.specs.declared.query.Query.TheVariants as query
 use Rattle.sq_typed.specs.declared.query.SetStep.{roll-SetStep}
-use Rattle.sq_typed.specs.Resolved.{Resolved, Source, Joined, Parts, together, scope_of, scoped, leftmost_of, operation_columns, operation, relation_columns, widened, of_query, of_source, of_block, resolved}
+use Rattle.sq_typed.specs.Resolved.{Resolved, Joined, Parts, together, scoped, leftmost_of, operation, relation_columns, widened, of_source, of_block, resolved}
 use Rattle.sq_typed.specs.Scopes.{Named, Scope, Text}
 use Rattle.sq_typed.specs.Selected.{Scoped, block_columns}
 use Rattle.sq_typed.specs.declared.check_kind.CheckKind.{CheckKind}
@@ -31,9 +30,9 @@ use Rattle.sq_check.specs.declared.resolve.Stop.{Stop}
 use Rattle.sq_check.specs.declared.resolve.Stop.TheVariants.{Repeated}
 use Rattle.sq_check.specs.declared.resolve.Wanted.{Wanted}
 use Rattle.sq_check.specs.declared.resolve.Wanted.TheVariants.{Distinct, Front}
-use Rattle.sq_check.specs.QueriesFound.{noted, stands, one_block, Adds, has_same_columns, given, IsWhole, repeats_among, repeats_in, GivesOf, Gives, operation_parts, GivesAll, SoFar, operand_repeats, block_repeats, GivesBlock, source_repeats, joined_repeats, with_operand, GivesSource, GivesScope}
+use Rattle.sq_check.specs.QueriesFound.{noted, stands, one_block, Adds, has_same_columns, IsWhole, repeats_among, repeats_in, GivesOf, Gives, operation_parts, GivesAll, SoFar, operand_repeats, block_repeats, GivesBlock, source_repeats, joined_repeats, with_operand, GivesSource, GivesScope}
 use Rattle.sq_scope.specs.Scoped.{scoped_by}
-use Rattle.sq_check.proofs.QueriesAdded.{or_false, or_comm, any_map, mixes, AreBoth, adds_both, adds_more, adds_before, adds_nothing, adds_weaker, stands_together, stands_nowhere, mixes_together, heads_together, heads_of}
+use Rattle.sq_check.proofs.QueriesAdded.{or_false, any_map, mixes, adds_more, adds_before, adds_nothing, adds_weaker, stands_together, mixes_together, heads_together, heads_of}
 use Rattle.sq_check.proofs.QueriesJoined.{gives_more}
 use Rattle.sq_check.proofs.QueriesLoops.{StepsSoFar}
 use Rattle.sq_check.proofs.QueriesScoped.{joined_at, step_at, layer, block_at, scoped_at}

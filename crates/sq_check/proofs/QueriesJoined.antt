@@ -1,7 +1,7 @@
 -- Set operations, an operand after the other.
-use Rattle.std.proofs.Common.{◌≡◌, ◌≢◌, ℕ, zero, suc, ◌≤◌, ◌==◌, List, [], ◌∷◌, ◌++◌, map, fold, length, take, Bool, true, false, not, ◌||◌, refl, sym, ap, subst, ◌∙◌, arith}
-use Rattle.std.specs.Prelude.{⊤, Option, Some, None}
-use Rattle.std.specs.List.{flat_map, list_any}
+use Rattle.std.proofs.Common.{◌≡◌, ℕ, zero, suc, ◌≤◌, ◌==◌, List, [], ◌∷◌, ◌++◌, map, fold, length, take, Bool, true, false, not, ◌||◌, refl, sym, ap, ◌∙◌, arith}
+use Rattle.std.specs.Prelude.{Some}
+use Rattle.std.specs.List.{list_any}
 use Rattle.std.proofs.lemmas.Bool.Decides.{Decides-eqb}
 use Rattle.std.proofs.lemmas.List.{map-append}
 use Rattle.std.proofs.lemmas.List.Folds.{list_any-append}
@@ -11,16 +11,15 @@ use Rattle.sq_expr.specs.Typing.{are_alike, sort_of_kind}
 use Rattle.sq_expr.specs.declared.expr.Kind.{Kind}
 use Rattle.sq_expr.specs.declared.expr.Kind.TheVariants.{Integer, Bigint, Text}
 use Rattle.sq_typed.specs.Faults.{differ_in_count, differ_in_sort, mixes_sorts}
-use Rattle.sq_typed.specs.Resolved.{Parts, Resolved, together, wider, widened, operation_columns, leftmost_of}
+use Rattle.sq_typed.specs.Resolved.{Parts, Resolved, wider, widened, operation_columns, leftmost_of}
 use Rattle.sq_typed.specs.declared.check_kind.CheckKind.{CheckKind}
 use Rattle.sq_typed.specs.declared.check_kind.CheckKind.TheVariants.{DuplicateName, UnknownRelation, UnnamedColumn, DuplicateColumn, UnknownColumn, AmbiguousColumn, NestedAggregate, NotGrouped, ColumnCount, TypeMismatch, TooWide, Limit}
-use Rattle.sq_typed.specs.Selected.{Scoped}
 use Rattle.sq_check.specs.declared.findings.Findings.{Findings}
 use Rattle.sq_check.specs.declared.resolve.Shape.{Shape}
 use Rattle.sq_check.specs.declared.resolve.Wanted.{Wanted}
 use Rattle.sq_check.specs.declared.resolve.Wanted.TheVariants.{Distinct, Front}
-use Rattle.sq_check.specs.QueriesFound.{noted, stands, Adds, has_same_columns, given, IsWhole, repeats_among, repeats_in, GivesOf, Gives, operation_parts, GivesAll, with_operand, SoFar, operand_repeats}
-use Rattle.sq_check.proofs.QueriesAdded.{or_assoc, or_comm, or_false, or_left, or_right, any_flat, any_map, mixes, AreBoth, adds_both, stands_together, mixes_together, heads_together}
+use Rattle.sq_check.specs.QueriesFound.{noted, stands, has_same_columns, given, IsWhole, repeats_among, Gives, operation_parts, GivesAll, with_operand}
+use Rattle.sq_check.proofs.QueriesAdded.{or_assoc, or_comm, or_false, or_left, or_right, mixes, stands_together, mixes_together, heads_together}
 
 -- ---- columns of a set operation
 

@@ -1,35 +1,30 @@
 -- The first kind of fault of a statement, told step by step.
-use Rattle.std.proofs.Common.{◌≡◌, ℕ, suc, List, [], ◌∷◌, ◌++◌, map, fold, find, length, nat_le, nat_lt, Bool, true, false, cond, not, ◌||◌, if◌then◌else◌, refl, sym, ap, subst, ◌∙◌}
+use Rattle.std.proofs.Common.{◌≡◌, ℕ, suc, List, [], ◌∷◌, map, fold, find, length, nat_le, nat_lt, Bool, true, false, cond, not, ◌||◌, if◌then◌else◌, refl, sym, ap, subst, ◌∙◌}
 use Rattle.std.specs.Prelude.{⊤, Option, Some, None, Result, Ok, Err, IfOk}
 use Rattle.std.specs.List.{AllByRecursion, list_any}
-use Rattle.sq_ast.specs.declared.query.BlockTree.{BlockTree, out-BlockTree}
 use Rattle.sq_ast.specs.declared.query.QueryTree.{QueryTree}
 use Rattle.sq_ast.specs.declared.query.QueryTree.TheVariants as tree
-use Rattle.sq_ast.specs.declared.query.SourceTree.{SourceTree}
-use Rattle.sq_ast.specs.declared.query.StepTree.{StepTree}
 use Rattle.sq_ast.specs.declared.statement.Body.TheVariants as body
 use Rattle.sq_ast.specs.declared.statement.ColumnTree.{ColumnTree}
 use Rattle.sq_catalog.specs.Names.{is_named}
 use Rattle.sq_catalog.specs.declared.relation.Column.{Column}
 use Rattle.sq_catalog.specs.declared.relation.Relation.{Relation}
-use Rattle.sq_typed.specs.Faults.{Described, described, described_view, names, has_same_sources, has_unnamed_item, has_unknown_column, has_ambiguous_column, has_nested_aggregate, has_bare_column, has_mixed_types, has_wide_expr, has_long_list, differ_in_count, mixes_sorts, has, kinds_in_order, first_kind}
+use Rattle.sq_typed.specs.Faults.{Described, described, described_view, names, has_same_sources, has_unnamed_item, has_unknown_column, has_ambiguous_column, has_nested_aggregate, has_bare_column, has_mixed_types, has_wide_expr, has_long_list, differ_in_count, mixes_sorts, has, first_kind}
 use Rattle.sq_typed.specs.Programs.{table_column}
-use Rattle.sq_typed.specs.Resolved.{Resolved, Parts, widened, operation_columns, leftmost_of, scoped, resolved}
+use Rattle.sq_typed.specs.Resolved.{Resolved, widened, operation_columns, leftmost_of, scoped, resolved}
 use Rattle.sq_typed.specs.Scopes.{Text, repeats}
-use Rattle.sq_typed.specs.Selected.{Scoped, block_columns}
 use Rattle.sq_typed.specs.declared.check_kind.CheckKind.{CheckKind}
 use Rattle.sq_typed.specs.declared.limits.TheConstants.{MOST_COLUMNS, MOST_STATEMENTS}
 use Rattle.sq_typed.specs.declared.check_kind.CheckKind.TheVariants as kind
 use Rattle.sq_typed.proofs.QueryTrees.{QueryTreeCases, each_query_tree}
 use Rattle.sq_scope.specs.NamesFaults.{names_fault}
 use Rattle.sq_check.specs.QueriesFaults.{no_findings, first_noted, later_kinds}
-use Rattle.sq_check.specs.QueriesFound.{noted, stands, has_same_columns, repeats_in, Gives, GivesOf}
+use Rattle.sq_check.specs.QueriesFound.{has_same_columns, repeats_in, Gives}
 use Rattle.sq_check.specs.declared.findings.Findings.{Findings}
 use Rattle.sq_check.specs.declared.resolve.Shape.{Shape}
-use Rattle.sq_check.specs.declared.resolve.Stop.{Stop}
 use Rattle.sq_check.specs.declared.resolve.Wanted.TheVariants.{Distinct}
 use Rattle.sq_check.proofs.QueriesAdded.{or_false}
-use Rattle.sq_check.proofs.QueriesGiven.{chain_is, intersect_is, chain_members}
+use Rattle.sq_check.proofs.QueriesGiven.{chain_is, intersect_is}
 use Rattle.sq_check.proofs.QueriesScoped.{layer, block_at}
 
 -- ---- the names of a query's columns are those of its leftmost block

@@ -4,7 +4,7 @@ use Rattle.sq_ast.specs.declared.query.QueryTree.{QueryTree}
 use Rattle.sq_ast.specs.declared.query.QueryTree.TheVariants as tree
 use Rattle.sq_ast.specs.declared.query.StepTree.{StepTree}
 use Rattle.sq_catalog.specs.declared.relation.Relation.{Relation}
-use Rattle.sq_typed.specs.Resolved.{Resolved, resolved}
+use Rattle.sq_typed.specs.Resolved.{resolved}
 use Rattle.sq_check.specs.declared.findings.Findings.{Findings}
 use Rattle.sq_check.specs.declared.resolve.Shape.{Shape}
 use Rattle.sq_check.specs.declared.resolve.Wanted.{Wanted}

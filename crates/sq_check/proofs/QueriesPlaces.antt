@@ -1,7 +1,6 @@
 -- Columns place by place.
-use Rattle.std.proofs.Common.{◌≡◌, ℕ, zero, suc, ◌+◌, ◌<◌, List, [], ◌∷◌, ◌++◌, take, drop, length, get_or, Bool, true, false, if◌then◌else◌, ◌||◌, refl, sym, ap, ◌∙◌, subst, arith}
-use Rattle.std.specs.Prelude.{Option, Some, None, bytes_eq, slice_get}
-use Rattle.std.specs.List.{position}
+use Rattle.std.proofs.Common.{◌≡◌, ℕ, zero, suc, ◌<◌, List, [], ◌∷◌, ◌++◌, take, drop, length, get_or, true, false, if◌then◌else◌, ◌||◌, refl, sym, ap, ◌∙◌, arith}
+use Rattle.std.specs.Prelude.{Some, bytes_eq, slice_get}
 use Rattle.std.proofs.lemmas.List.Quantifiers.{position-Some}
 use Rattle.std.proofs.lemmas.Option.{same_Some}
 use Rattle.sq_catalog.specs.declared.relation.Column.{Column}

@@ -3,7 +3,6 @@ use Rattle.std.proofs.Common.{◌≡◌, ℕ, zero, suc, ◌+◌, ◌-◌, ◌^�
 use Rattle.std.specs.Prelude.{Option, Some, None, Result, Ok, Err, IfOk}
 use Rattle.std.specs.List.{AllByRecursion, list_any}
 use Rattle.std.specs.Result.{IsErrAnd}
-use Rattle.std.proofs.lemmas.List.{take_more, append-nil}
 use Rattle.std.proofs.lemmas.List.Sums.{fold-append}
 use Rattle.sq_ast.specs.declared.statement.Body.{Body}
 use Rattle.sq_ast.specs.declared.statement.Body.TheVariants as body
@@ -11,8 +10,8 @@ use Rattle.sq_ast.specs.declared.statement.Statement.{Statement}
 use Rattle.sq_catalog.specs.Names.{is_named}
 use Rattle.sq_catalog.specs.declared.relation.Relation.{Relation}
 use Rattle.sq_typed.specs.Checked.{Spelling, IsChecked}
-use Rattle.sq_typed.specs.Faults.{Described, described, names, has, has_same_sources, kinds_in_order, first_kind, first_fault, or_later, refused_from, refused, has_long_list}
-use Rattle.sq_typed.specs.Programs.{with_body, program_of, catalog_of, Typed}
+use Rattle.sq_typed.specs.Faults.{Described, described, has, has_same_sources, first_kind, first_fault, or_later, refused_from, refused, has_long_list}
+use Rattle.sq_typed.specs.Programs.{with_body, program_of, Typed}
 use Rattle.sq_typed.specs.Views.{Meant}
 use Rattle.sq_typed.specs.declared.check_kind.CheckKind.{CheckKind}
 use Rattle.sq_typed.specs.declared.limits.TheConstants.{MOST_COLUMNS, MOST_STATEMENTS}

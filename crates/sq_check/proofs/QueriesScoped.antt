@@ -1,9 +1,7 @@
 -- A block with its sources in the place of their trees.
-use Rattle.std.proofs.Common.{◌≡◌, ℕ, suc, List, [], ◌∷◌, ◌++◌, map, take, length, refl, sym, ap, ◌∙◌, append_assoc}
+use Rattle.std.proofs.Common.{◌≡◌, suc, List, [], ◌∷◌, ◌++◌, map, take, length, refl, sym, ap, ◌∙◌, append_assoc}
 use Rattle.std.specs.List.{flat_map}
-use Rattle.sq_ast.specs.declared.cond.CondTree.{CondTree}
 use Rattle.sq_ast.specs.declared.query.BlockTree.{BlockTree, out-BlockTree, roll-out-BlockTree}
-use Rattle.sq_ast.specs.declared.query.JoinTree.{JoinTree}
 use Rattle.sq_ast.specs.declared.query.JoinedTree.{JoinedTree, out-JoinedTree, roll-out-JoinedTree}
 use Rattle.sq_ast.specs.declared.query.QueryTree.TheOpen.{BlockTree-F}
 use Rattle.sq_ast.specs.declared.query.QueryTree.TheVariants as tree
@@ -12,7 +10,6 @@ use Rattle.sq_ast.specs.declared.query.StepTree.{StepTree, roll-out-StepTree}
 use Rattle.sq_catalog.specs.declared.relation.Relation.{Relation}
 use Rattle.sq_typed.specs.Resolved.{Resolved, Source, Joined, scope_of, on_cond, each_join, scoped, of_block, resolved}
 use Rattle.sq_typed.specs.Scopes.{Named, Scope}
-use Rattle.sq_typed.specs.Selected.{Scoped}
 use Rattle.sq_typed.proofs.QueryEquations.{resolved_source, resolved_joined, resolved_step, joined-is, step-is, resolved-Block}
 use Rattle.sq_scope.specs.Scoped.{ons_from, scoped_by}
 

@@ -1,5 +1,5 @@
 -- Each statement of a program that tokens spell is spelled by some of them.
-use Rattle.std.proofs.Common.{ℕ, List, []}
+use Rattle.std.proofs.Common.{ℕ, List}
 use Rattle.std.specs.List.{AllByRecursion}
 use Rattle.sq_token.specs.declared.token.Token.{Token}
 use Rattle.sq_ast.specs.Spelling as by

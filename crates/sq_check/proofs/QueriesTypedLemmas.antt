@@ -7,7 +7,6 @@ use Rattle.std.proofs.lemmas.Option.{same_Some}
 use Rattle.sq_ast.specs.declared.query.BlockTree.{BlockTree, out-BlockTree}
 use Rattle.sq_ast.specs.declared.query.JoinedTree.{JoinedTree, out-JoinedTree}
 use Rattle.sq_ast.specs.declared.query.QueryTree.{QueryTree}
-use Rattle.sq_ast.specs.declared.query.QueryTree.TheOpen.{SourceTree-F}
 use Rattle.sq_ast.specs.declared.query.QueryTree.TheVariants as tree
 use Rattle.sq_ast.specs.declared.query.SourceTree.{SourceTree}
 use Rattle.sq_ast.specs.declared.query.SourceTree.TheVariants as from
@@ -24,7 +23,7 @@ use Rattle.sq_typed.specs.declared.query.Query.{Query}
 use Rattle.sq_typed.specs.declared.query.Query.TheVariants as query
 use Rattle.sq_typed.specs.declared.query.SetStep.{SetStep, roll-SetStep}
 use Rattle.sq_typed.specs.Numbered.{row_cond}
-use Rattle.sq_typed.specs.Resolved.{Resolved, Source, Joined, relation_columns, scope_of, scoped, widened, operation_columns, operation, typed_join, each_join, typed_source, typed_block, of_source, of_block, resolved}
+use Rattle.sq_typed.specs.Resolved.{Resolved, Joined, relation_columns, scope_of, scoped, widened, operation_columns, operation, typed_join, each_join, typed_source, resolved}
 use Rattle.sq_typed.specs.Scopes.{Named, Scope, Text}
 use Rattle.sq_typed.specs.Selected.{Scoped, chosen, item_expr, grouping, block_columns}
 use Rattle.sq_typed.proofs.QueryEquations.{resolved_source, resolved_joined, resolved_step, resolved-Chain, resolved-Intersect, source-Relation, source-Query}

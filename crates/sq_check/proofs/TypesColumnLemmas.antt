@@ -46,19 +46,8 @@ some_columns test begin (s ∷ ss) =
       length-append s.columns (columns_in ss),
     )
 
-whole : {A : Type 0} (xs : List A) → take (length xs) xs ≡ xs
-whole [] = refl
-whole (x ∷ xs) = ap (λ ys. x ∷ ys) (whole xs)
-
 pub count_at : (ss : Scope) (i : ℕ) (s : Named) → i < length ss → s ≡ get_or ss i s → length s.columns ≡ length (starred_at ss i)
 count_at ss i s below is = sym (length_from (length (columns_in (take i ss))) (get_or (map (λ s. s.columns) ss) i []) ∙ ap length (columns_here ss i s below is))
-
--- a loop that counts what each member stands for
-pub more_count : {A B : Type 0} (f : A → List B) (xs : List A) (i : ℕ) (x : A) (before more after : ℕ) → i < length xs → x ≡ get_or xs i x → before ≡ length (flat_map f (take i xs)) → more ≡ length (f x) → after ≡ before + more → after ≡ length (flat_map f (take (i + 1) xs))
-more_count f xs i x before more after below is was here both =
-    both ∙ (ap (λ n. n + more) was ∙ (ap (λ n. length (flat_map f (take i xs)) + n) here
-    ∙ (sym (length-append (flat_map f (take i xs)) (f x))
-    ∙ ap length (ap (λ y. flat_map f (take i xs) ++ f y) is ∙ sym (flat_more f xs i x below)))))
 
 -- ---- fronts
 

@@ -1,5 +1,5 @@
 -- The kinds of faults in order, told from what was noted.
-use Rattle.std.specs.Prelude.{◌≡◌, ◌||◌, Bool, false, if◌then◌else◌, List, [], ◌∷◌, Option, Some, None}
+use Rattle.std.specs.Prelude.{◌||◌, Bool, false, if◌then◌else◌, List, [], ◌∷◌, Option, Some, None}
 use Rattle.sq_typed.specs.declared.check_kind.CheckKind.{CheckKind}
 use Rattle.sq_typed.specs.declared.check_kind.CheckKind.TheVariants as kind
 use Rattle.sq_check.specs.declared.findings.Findings.{Findings}

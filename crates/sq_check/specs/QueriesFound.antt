@@ -1,6 +1,6 @@
 -- What is noted of the blocks and set operations of a query while it is gone through.
 --     Adds before after p        what was noted before, and what stands in p.       Gives wanted r s        s is so much of what r gives
-use Rattle.std.specs.Prelude.{◌≡◌, ◌≢◌, ◌≤◌, ◌==◌, ⊤, ℕ, Bool, false, not, ◌||◌, List, [], ◌∷◌, length, map, take, Option, Some, None}
+use Rattle.std.specs.Prelude.{◌≡◌, ◌≢◌, ◌≤◌, ◌==◌, ⊤, Bool, false, not, ◌||◌, List, [], ◌∷◌, length, map, take, Option, Some, None}
 use Rattle.std.specs.List.{list_any}
 use Rattle.sq_catalog.specs.declared.relation.Column.{Column}
 use Rattle.sq_expr.specs.Typing.{are_alike, sort_of_kind}

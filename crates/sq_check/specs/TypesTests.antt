@@ -47,4 +47,7 @@ abbrev pub exprs_fail : Test → Frame → Scope → BlockTree → Bool
 exprs_fail test f scope b = list_any (λ i. list_any (item_fails test f) (written_out scope i)) (out-BlockTree b).items || list_any (call_fails test (kinds_in f.row)) f.groups.calls
 
 abbrev pub conds_fail : Test → Frame → Scope → BlockTree → Bool
-conds_fail test f scope b = list_any (λ c. on_fails test (f.row, c)) (option_to_list (out-BlockTree b).filter) || list_any (on_fails test) (ons_from 0 scope (out-BlockTree b).sources) || list_any (having_fails test f) (option_to_list (out-BlockTree b).having)
+conds_fail test f scope b =
+    list_any (λ c. on_fails test (f.row, c)) (option_to_list (out-BlockTree b).filter)
+    || list_any (on_fails test) (ons_from 0 scope (out-BlockTree b).sources)
+    || list_any (having_fails test f) (option_to_list (out-BlockTree b).having)

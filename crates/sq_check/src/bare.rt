@@ -14,7 +14,7 @@ use sq_scope::{Keys, ListItem, Row, Scope, chosen, each_star_once};
 use sq_value::NoMemory;
 use std::alloc::Global;
 
-/// Whether the block is grouped, and a column outside calls in an item or in HAVING is none of GROUP BY. `NoMemory` where
+/// Whether the block is grouped, and a column outside calls in an item or in HAVING is none of GROUP BY. `NoMemory` if
 /// memory runs out.
 pub fn has_bare_column(alloc: Global, scope: &Scope, block: &BlockTree) -> Result<bool, NoMemory>
     ensures { IfOk result (λ found. found ≡ has_bare_column (scoped_by scope.now block.now)) }

@@ -80,7 +80,7 @@ pub fn has_long_list(scope: &Scope, block: &BlockTree) -> bool
     has_many_items | has_many_sources
 }
 
-/// The first columns that the block gives, up to so many, or `NoMemory` where memory runs out.
+/// The first columns that the block gives, up to so many, or `NoMemory` if memory runs out.
 pub fn first_columns(
     alloc: Global,
     scope: &Scope,
@@ -159,7 +159,7 @@ fn add_column(
     Ok(())
 }
 
-/// All columns that the block gives, or None where two of them have the same name. `NoMemory` where memory runs out.
+/// All columns that the block gives, or None if two of them have the same name. `NoMemory` if memory runs out.
 ///
 /// It stops soon after the first name that stands twice, so that the list is no longer than twice the front without such a name
 /// and the columns of one star.
@@ -168,7 +168,8 @@ pub fn distinct_columns(
     scope: &Scope,
     block: &BlockTree,
 ) -> Result<Option<Items<Column>>, NoMemory>
-    ensures { IfOk result (λ found. MatchOption found (repeats (names (block_columns (scoped_by scope.now block.now))) ≡ true) (λ columns. (columns ≡ block_columns (scoped_by scope.now block.now)) × (repeats (names columns) ≡ false))) }
+    ensures { IfOk result (λ found. MatchOption found (repeats (names (block_columns (scoped_by scope.now block.now))) ≡ true) (λ columns. (columns ≡ block_columns
+        (scoped_by scope.now block.now)) × (repeats (names columns) ≡ false))) }
 {
     let frame = Frame::of(alloc, scope, block)?;
     let found = distinct_listed(alloc, &frame, scope, block.items.as_slice())?;
@@ -181,7 +182,8 @@ fn distinct_listed(
     scope: &Scope,
     items: &[ItemTree],
 ) -> Result<Option<Items<Column>>, NoMemory>
-    ensures { IfOk result (λ found. MatchOption found (repeats (names (map (frame_column frame.now) (flat_map (written_out scope.now) items.now))) ≡ true) (λ columns. (columns ≡ map (frame_column frame.now) (flat_map (written_out scope.now) items.now)) × (repeats (names columns) ≡ false))) }
+    ensures { IfOk result (λ found. MatchOption found (repeats (names (map (frame_column frame.now) (flat_map (written_out scope.now) items.now))) ≡ true) (λ columns. (columns ≡ map
+        (frame_column frame.now) (flat_map (written_out scope.now) items.now)) × (repeats (names columns) ≡ false))) }
 {
     let mut columns = Items::new(alloc);
     let mut checked = 0;

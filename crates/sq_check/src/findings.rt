@@ -1,5 +1,5 @@
 //! Which faults the blocks and set operations of a query have.
-ghost use Rattle.std.specs.Prelude.{◌≡◌, ⊤, ◌||◌, [], ◌∷◌, OnOk};
+ghost use Rattle.std.specs.Prelude.{◌≡◌, ⊤, ◌||◌, OnOk};
 ghost use Rattle.sq_check.specs.QueriesFaults.{first_noted, no_findings};
 ghost use Rattle.sq_check.specs.QueriesFound.{Adds, one_block, with_operand};
 ghost use Rattle.sq_scope.specs.Scoped.{scoped_by};
@@ -25,7 +25,7 @@ pub(crate) struct Findings {
     pub(crate) not_grouped: bool,
     pub(crate) column_count: bool,
     pub(crate) type_mismatch: bool,
-    // Told where no counts differ.
+    // Told if no counts differ.
     pub(crate) sort_mismatch: bool,
     pub(crate) too_wide: bool,
     pub(crate) limit: bool,
@@ -49,7 +49,7 @@ impl Findings {
         }
     }
 
-    /// Notes the faults of a block over its sources. The answer is `NoMemory` where memory runs out.
+    /// Notes the faults of a block over its sources. The answer is `NoMemory` if memory runs out.
     pub(crate) fn note_block(
         &mut self,
         alloc: Global,
@@ -76,7 +76,7 @@ impl Findings {
         self.sort_mismatch |= sorts_differ(before.columns.as_slice(), other.columns.as_slice());
     }
 
-    /// The first kind of fault that was noted, where the statement may be one too many or have too many columns.
+    /// The first kind of fault that was noted; the statement may be one too many or have too many columns.
     pub(crate) fn first(&self, too_many: bool) -> Option<CheckKind>
         ensures { result ≡ first_noted self.now too_many }
     {

@@ -28,7 +28,7 @@ pub(crate) struct Frame<'a> {
 }
 
 impl<'a> Frame<'a> {
-    /// The frame of the block over the scope, or `NoMemory` where memory runs out.
+    /// The frame of the block over the scope, or `NoMemory` if memory runs out.
     pub(crate) fn of(
         alloc: Global,
         scope: &'a Scope<'a>,
@@ -58,7 +58,7 @@ impl<'a> Frame<'a> {
         }
     }
 
-    /// The expression of an item, or `NoMemory` where memory runs out.
+    /// The expression of an item, or `NoMemory` if memory runs out.
     pub(crate) fn expr(&self, alloc: Global, tree: &ExprTree) -> Result<Expr, NoMemory>
         ensures { IfOk result (λ e. e ≡ frame_expr self.now tree.now) }
     {

@@ -15,7 +15,7 @@ use sqlite_items::Items;
 use std::alloc::Global;
 
 impl<'a> Frame<'a> {
-    /// The expression of an item, or `NoMemory` where memory runs out.
+    /// The expression of an item, or `NoMemory` if memory runs out.
     pub(crate) fn item_expr(&self, alloc: Global, item: &ListItem) -> Result<Expr, NoMemory>
         ensures { IfOk result (λ e. e ≡ frame_item self.now (chosen_of item.now)) }
     {
@@ -25,7 +25,7 @@ impl<'a> Frame<'a> {
         }
     }
 
-    /// The column that an item gives, or `NoMemory` where memory runs out.
+    /// The column that an item gives, or `NoMemory` if memory runs out.
     pub(crate) fn item_column(&self, alloc: Global, item: &ListItem) -> Result<Column, NoMemory>
         ensures { IfOk result (λ c. c ≡ frame_column self.now (chosen_of item.now)) }
     {
@@ -39,7 +39,7 @@ impl<'a> Frame<'a> {
     }
 }
 
-// The name of the item, the empty one where it has none.
+// The name of the item, the empty one if it has none.
 fn name_of(alloc: Global, item: &ListItem) -> Result<Str, NoMemory>
     ensures { IfOk result (λ name. name ≡ unwrap_or (item_name (chosen_of item.now)) []) }
 {
@@ -75,7 +75,7 @@ fn no_name(alloc: Global) -> Result<Str, NoMemory>
     Str::of(alloc, "")
 }
 
-/// Puts the expressions of what the item stands for behind the others. Where memory runs out some are there.
+/// Puts the expressions of what the item stands for behind the others. If memory runs out, some are there.
 pub(crate) fn push_exprs(
     alloc: Global,
     frame: &Frame,
@@ -104,7 +104,7 @@ fn push_listed(
     Ok(())
 }
 
-/// Puts the columns of what the item stands for behind the others. Where memory runs out some are there.
+/// Puts the columns of what the item stands for behind the others. If memory runs out, some are there.
 pub(crate) fn push_columns(
     alloc: Global,
     frame: &Frame,

@@ -5,7 +5,7 @@ ghost use Rattle.sq_typed.specs.Resolved.{relation_columns};
 use sq_catalog::{Catalog, Column};
 use sq_value::Str;
 
-/// The columns of the relation with this name; none where there is none.
+/// The columns of the relation with this name; none if there is none.
 pub(crate) fn columns_named<'a>(catalog: &'a Catalog, name: &Str) -> &'a [Column]
     ensures { result.now ≡ relation_columns name.now catalog.now }
 {

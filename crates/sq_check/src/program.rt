@@ -35,7 +35,7 @@ impl From<NoMemory> for CheckFault {
     }
 }
 
-/// The program that the statements mean, where none of them has a fault; else the first that has one, by its number, with the
+/// The program that the statements mean, if none of them has a fault; else the first that has one, by its number, with the
 /// first kind of fault that it has. `CheckFault::Memory` says that memory ran out, and nothing of the statements.
 ///
 /// Each of the statements is spelled by some tokens. The time and the memory are about in proportion to the text of the
@@ -54,7 +54,7 @@ pub fn check(alloc: Global, statements: &[Statement]) -> Result<Program, CheckFa
     Ok(Program::of(catalog, queries))
 }
 
-/// Adds what a statement creates behind so many others, where it has no fault.
+/// Adds what a statement creates behind so many others, if it has no fault.
 fn add_statement(
     alloc: Global,
     catalog: &mut Catalog,
@@ -115,7 +115,7 @@ fn create(
     }
 }
 
-/// Adds a relation. The answer is `NoMemory` where memory runs out.
+/// Adds a relation. The answer is `NoMemory` if memory runs out.
 fn add(alloc: Global, catalog: &mut Catalog, relation: Relation) -> Result<(), NoMemory>
     requires few { length catalog.old < 2 ^ 32 - 1 }
     requires new_name { is_named relation.name catalog.old ≡ false }

@@ -41,7 +41,7 @@ pub(crate) struct Shape {
 /// Why a query was not gone through to its end.
 #[derive(Clone, Copy, Debug)]
 pub(crate) enum Stop {
-    /// Two columns have the same name where none may.
+    /// Two columns have the same name when none may.
     Repeated,
     /// Memory ran out.
     Memory,
@@ -73,7 +73,7 @@ impl<T: Drop> From<AllocFailed<T>> for Stop {
 
 /// What the query gives of what is wanted, and the faults that stand in it are added to those found.
 ///
-/// It stops where two columns of the leftmost block of a query in `FROM`, or of this query where distinct ones are
+/// It stops if two columns of the leftmost block of a query in `FROM`, or of this query if distinct ones are
 /// wanted, have the same name: so a `*` can't make more columns than there are names.
 #[cycle(resolve)]
 pub(crate) fn resolve(
@@ -114,7 +114,8 @@ fn resolve_member(
     before: Option<Shape>,
     findings: &mut Findings,
 ) -> Result<Shape, Stop>
-    ensures { MatchResult result (λ shape. (members : List ResolvedQuery) (start : Found) → SoFar wanted members start findings.old before → GivesAll wanted (members ++ resolved catalog.now query.now ∷ []) start findings.new shape) (λ stop. stop ≡ Repeated → operand_repeats wanted before (resolved catalog.now query.now) ≡ true) }
+    ensures { MatchResult result (λ shape. (members : List ResolvedQuery) (start : Found) → SoFar wanted members start findings.old before →
+        GivesAll wanted (members ++ resolved catalog.now query.now ∷ []) start findings.new shape) (λ stop. stop ≡ Repeated → operand_repeats wanted before (resolved catalog.now query.now) ≡ true) }
 {
     match before {
         None => resolve(alloc, catalog, query, wanted, findings),
@@ -131,7 +132,9 @@ fn resolve_further(
     before: Shape,
     findings: &mut Findings,
 ) -> Result<Shape, Stop>
-    ensures { MatchResult result (λ shape. (wanted : Asked) (first : ResolvedQuery) (rest : List ResolvedQuery) (start : Found) → GivesAll wanted (first ∷ rest) start findings.old before → GivesAll wanted (first ∷ (rest ++ resolved catalog.now query.now ∷ [])) start findings.new shape) (λ stop. stop ≡ Repeated → list_any has_same_columns (resolved catalog.now query.now).parts.heads ≡ true) }
+    ensures { MatchResult result (λ shape. (wanted : Asked) (first : ResolvedQuery) (rest : List ResolvedQuery) (start : Found) →
+        GivesAll wanted (first ∷ rest) start findings.old before → GivesAll wanted (first ∷ (rest ++ resolved catalog.now query.now ∷ [])) start findings.new shape)
+        (λ stop. stop ≡ Repeated → list_any has_same_columns (resolved catalog.now query.now).parts.heads ≡ true) }
 {
     let front = Wanted::Front(before.columns.len());
     let other = resolve(alloc, catalog, query, front, findings)?;
@@ -149,7 +152,8 @@ fn resolve_block(
     wanted: Wanted,
     findings: &mut Findings,
 ) -> Result<Shape, Stop>
-    ensures { MatchResult result (λ shape. Gives wanted (resolved catalog.now (tree.Block block.now)) findings.old findings.new shape) (λ stop. stop ≡ Repeated → repeats_in wanted (resolved catalog.now (tree.Block block.now)) ≡ true) }
+    ensures { MatchResult result (λ shape. Gives wanted (resolved catalog.now (tree.Block block.now)) findings.old findings.new shape)
+        (λ stop. stop ≡ Repeated → repeats_in wanted (resolved catalog.now (tree.Block block.now)) ≡ true) }
 {
     let scope = resolve_sources(alloc, catalog, &block.sources, findings)?;
     findings.note_block(alloc, &scope, block)?;
@@ -164,7 +168,8 @@ fn resolve_sources<'a>(
     sources: &'a Items<JoinedTree>,
     findings: &mut Findings,
 ) -> Result<Scope<'a>, Stop>
-    ensures { MatchResult result (λ scope. GivesScope (map (resolved_joined catalog.now) sources.now) findings.old findings.new scope) (λ stop. stop ≡ Repeated → list_any joined_repeats (map (resolved_joined catalog.now) sources.now) ≡ true) }
+    ensures { MatchResult result (λ scope. GivesScope (map (resolved_joined catalog.now) sources.now) findings.old findings.new scope)
+        (λ stop. stop ≡ Repeated → list_any joined_repeats (map (resolved_joined catalog.now) sources.now) ≡ true) }
 {
     let mut found = Vec::new(alloc);
     for joined in sources.as_slice() {

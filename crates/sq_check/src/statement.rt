@@ -17,7 +17,7 @@ use sq_value::{NoMemory, Str};
 use std::alloc::Global;
 
 /// The first kind of fault, in their order, of what a statement creates behind so many statements that created these
-/// relations. The answer is `NoMemory` where memory runs out.
+/// relations. The answer is `NoMemory` if memory runs out.
 pub(crate) fn first_fault(
     alloc: Global,
     catalog: &Catalog,

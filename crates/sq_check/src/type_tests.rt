@@ -28,7 +28,7 @@ pub(crate) enum Test {
 }
 
 /// Whether a comparison in the block has a number and a text, or arithmetic or SUM has a text, or a column of an expression is
-/// not there. `NoMemory` where memory runs out.
+/// not there. `NoMemory` if memory runs out.
 pub fn has_mixed_types(alloc: Global, scope: &Scope, block: &BlockTree) -> Result<bool, NoMemory>
     ensures { IfOk result (λ found. found ≡ has_mixed_types (scoped_by scope.now block.now)) }
 {
@@ -39,7 +39,7 @@ pub fn has_mixed_types(alloc: Global, scope: &Scope, block: &BlockTree) -> Resul
     Ok(in_exprs | in_conds | in_sums)
 }
 
-/// Whether the static bound of an expression of the block is above 2^127 - 1. `NoMemory` where memory runs out.
+/// Whether the static bound of an expression of the block is above 2^127 - 1. `NoMemory` if memory runs out.
 pub fn has_wide_expr(alloc: Global, scope: &Scope, block: &BlockTree) -> Result<bool, NoMemory>
     ensures { IfOk result (λ found. found ≡ has_wide_expr (scoped_by scope.now block.now)) }
 {

@@ -28,7 +28,7 @@ pub(crate) struct TypedQuery {
     pub(crate) columns: Items<Column>,
 }
 
-/// The query with names replaced by numbers. The answer is `NoMemory` where memory runs out.
+/// The query with names replaced by numbers. The answer is `NoMemory` if memory runs out.
 #[cycle(typed)]
 pub(crate) fn typed_query(
     alloc: Global,
@@ -159,7 +159,7 @@ fn typed_source<'a>(
     }
 }
 
-/// The number of the relation with this name; 0 where there is none.
+/// The number of the relation with this name; 0 if there is none.
 fn number_named(catalog: &Catalog, name: &Str) -> u32
     ensures { result ≡ unwrap_or (place_of name.now catalog.now) 0 }
 {

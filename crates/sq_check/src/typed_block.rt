@@ -19,8 +19,8 @@ use sq_value::NoMemory;
 use sqlite_items::{Boxed, Items};
 use std::alloc::Global;
 
-/// The join of a source, where the condition of ON is over the columns of so many sources, or of all where there are not so
-/// many. `NoMemory` where memory runs out.
+/// The join of a source, with the condition of ON over the columns of so many sources, or of all if there are not so
+/// many. `NoMemory` if memory runs out.
 pub fn typed_join(
     alloc: Global,
     scope: &Scope,
@@ -43,7 +43,7 @@ fn join_over(alloc: Global, row: &Row, join: &JoinTree) -> Result<FromJoin, NoMe
     }
 }
 
-/// The block with numbers in the place of names, over these typed sources, or `NoMemory` where memory runs out.
+/// The block with numbers in the place of names, over these typed sources, or `NoMemory` if memory runs out.
 pub fn typed_block(
     alloc: Global,
     scope: &Scope,
@@ -109,7 +109,7 @@ fn typed_having(
     }
 }
 
-// The grouping of a block with these groups and this condition of HAVING, where it is grouped.
+// The grouping of a block with these groups and this condition of HAVING, if it is grouped.
 fn grouping_of(grouped: bool, groups: Groups, having: Option<Cond>) -> Option<Grouping>
     ensures { result ≡ grouping_of grouped groups.keys.numbers groups.calls having }
 {

@@ -1,6 +1,6 @@
 //! The aggregate calls of expressions and of select lists, each call once.
-ghost use Rattle.std.specs.Prelude.{◌≡◌, IfOk, OnOk, position};
-ghost use Rattle.std.specs.List.{flat_map, list_any};
+ghost use Rattle.std.specs.Prelude.{◌≡◌, OnOk, position};
+ghost use Rattle.std.specs.List.{flat_map};
 ghost use Rattle.sq_typed.specs.Leaves.{leaves};
 ghost use Rattle.sq_typed.specs.Numbered.{is_same_call, same_argument};
 ghost use Rattle.sq_scope.specs.TypesGroups.{keep_call, with_calls};
@@ -15,7 +15,7 @@ use sq_value::NoMemory;
 use sqlite_items::Items;
 use std::alloc::Global;
 
-/// Puts the calls of the expression that are none of those there behind them. Where memory runs out some are.
+/// Puts the calls of the expression that are none of those there behind them. If memory runs out, some are.
 #[cycle(calls)]
 #[tactic(auto, using(crate::proofs::TypesTrees::plain_forms))]
 pub fn push_calls(
@@ -65,7 +65,7 @@ fn push_factor_calls(
     Ok(())
 }
 
-/// Puts the calls of the condition that are none of those there behind them. Where memory runs out some are.
+/// Puts the calls of the condition that are none of those there behind them. If memory runs out, some are.
 #[cycle(cond_calls)]
 #[tactic(auto, using(crate::proofs::TypesTrees::cond_leaf_forms, crate::proofs::TypesCalls::with_calls_append))]
 pub fn push_cond_calls(
@@ -103,7 +103,7 @@ fn push_all_calls(
     Ok(())
 }
 
-/// Puts the calls of the items that are none of those there behind them. Where memory runs out some are.
+/// Puts the calls of the items that are none of those there behind them. If memory runs out, some are.
 pub fn push_list_calls(
     alloc: Global,
     row: &Row,
@@ -132,7 +132,7 @@ fn push_item_calls(
     }
 }
 
-// Puts the call behind the others where it is none of them.
+// Puts the call behind the others if it is none of them.
 #[tactic(auto, using(crate::proofs::TypesCalls::keep_forms))]
 fn push_new(call: BlockCall, calls: &mut Items<BlockCall>) -> Result<(), NoMemory>
     ensures { OnOk result (calls.new ≡ keep_call calls.old call) }

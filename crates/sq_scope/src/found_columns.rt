@@ -27,7 +27,7 @@ impl Found {
     }
 }
 
-// How many columns a reference finds, and the number of the first; 0 where it finds none.
+// How many columns a reference finds, and the number of the first; 0 if it finds none.
 #[derive(Clone, Copy, Debug)]
 pub struct Sight {
     pub count: usize,
@@ -66,7 +66,7 @@ impl Sight {
         sight
     }
 
-    // With one more column, where there is one.
+    // With one more column, if there is one.
     fn with(self, number: Option<u32>) -> Sight
         requires { self.count < 2 ^ 63 }
         ensures { (ns : List ℕ) → Sees self ns → Sees result (ns ++ option_to_list number) }

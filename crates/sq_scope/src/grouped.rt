@@ -22,7 +22,7 @@ pub struct Groups {
     pub calls: Items<BlockCall>,
 }
 
-/// The expression over the group row, or `NoMemory` where memory runs out.
+/// The expression over the group row, or `NoMemory` if memory runs out.
 #[cycle(group)]
 #[tactic(auto, using(crate::proofs::TypesTrees::replaced_forms))]
 pub fn group_expr(
@@ -90,7 +90,7 @@ fn group_factors(
     Ok(typed)
 }
 
-/// The condition over the group row, or `NoMemory` where memory runs out.
+/// The condition over the group row, or `NoMemory` if memory runs out.
 #[cycle(group_cond)]
 #[tactic(auto, using(crate::proofs::TypesTrees::replaced_forms))]
 pub fn group_cond(
@@ -154,7 +154,7 @@ fn group_conds(
 }
 
 impl Groups {
-    /// The place in the group row of the column with this number, 0 where it is none of GROUP BY. Takes no memory.
+    /// The place in the group row of the column with this number, 0 if it is none of GROUP BY. Takes no memory.
     pub fn place_of_key(&self, number: u32) -> u32
         ensures { result ≡ place_of_key self.now.keys.numbers number }
     {
@@ -177,7 +177,7 @@ fn place_of_call(
     column_number(groups.keys.numbers.len().saturating_add(place))
 }
 
-/// The kinds of the group row, over columns of some kinds, or `NoMemory` where memory runs out.
+/// The kinds of the group row, over columns of some kinds, or `NoMemory` if memory runs out.
 pub fn group_kinds(alloc: Global, kinds: &[Kind], groups: &Groups) -> Result<Items<Kind>, NoMemory>
     ensures { IfOk result (λ ks. ks ≡ key_kinds kinds.now groups.now.keys.numbers ++ call_kinds kinds.now groups.now.calls) }
 {
@@ -230,7 +230,7 @@ pub fn kind_of(kinds: &[Kind], expr: &Expr) -> Kind
     }
 }
 
-/// The kind of the column with this number, BIGINT where there is none. Takes no memory.
+/// The kind of the column with this number, BIGINT if there is none. Takes no memory.
 pub fn kind_at(kinds: &[Kind], number: u32) -> Kind
     ensures { result ≡ get_or kinds.now number Bigint }
 {

@@ -1,5 +1,5 @@
 //! Where the sources and columns of each name stand.
-ghost use Rattle.std.specs.Prelude.{◌≡◌, ◌<◌, ◌+◌, ◌^◌, ◌++◌, ◌&&◌, not, ◌∷◌, [], ℕ, List, map, length, bytes_eq, if◌then◌else◌, option_to_list, position, OnOk, IfOk};
+ghost use Rattle.std.specs.Prelude.{◌≡◌, ◌<◌, ◌+◌, ◌^◌, ◌++◌, ◌&&◌, not, ◌∷◌, [], length, bytes_eq, if◌then◌else◌, option_to_list, position, OnOk, IfOk};
 ghost use Rattle.std.specs.String.{string_bytes};
 ghost use Rattle.std.specs.List.{AllByRecursion};
 ghost use Rattle.std.specs.Option.{option_copied};
@@ -192,7 +192,7 @@ fn number_in(places: &[Place], source: usize) -> Option<u32>
     number_if(at(places, places_before(places, source)), source)
 }
 
-// The number of the place, where it is in the source.
+// The number of the place, if it is in the source.
 fn number_if(place: Option<&Place>, source: usize) -> Option<u32>
     ensures { option_to_list result ≡ number_if_at source (option_copied place.entry) }
 {

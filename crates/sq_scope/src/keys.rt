@@ -22,7 +22,7 @@ pub struct Keys {
 }
 
 impl Keys {
-    /// The columns of GROUP BY, or `NoMemory` where memory runs out.
+    /// The columns of GROUP BY, or `NoMemory` if memory runs out.
     pub fn of(alloc: Global, row: &Row, group: &[ColRef]) -> Result<Keys, NoMemory>
         ensures { IfOk result (λ keys. keys.numbers ≡ map (number_of row.now) group.now) }
     {
@@ -63,7 +63,7 @@ impl Keys {
     }
 }
 
-// Puts the place at the number, where it has none.
+// Puts the place at the number, if it has none.
 fn keep_first(places: &mut HashMap<u32, u32>, number: u32, place: u32) -> Result<(), NoMemory>
     ensures { OnOk result ((n : ℕ) → get nat_eq places.new n ≡ option_or (get nat_eq places.old n) (if number == n then Some place else None)) }
 {
@@ -71,7 +71,7 @@ fn keep_first(places: &mut HashMap<u32, u32>, number: u32, place: u32) -> Result
     Ok(())
 }
 
-/// The number as that of a column, or `NoMemory` where it is 2^32 or more.
+/// The number as that of a column, or `NoMemory` if it is 2^32 or more.
 pub fn column_number(number: usize) -> Result<u32, NoMemory>
     ensures { IfOk result (λ column. column ≡ number) }
 {

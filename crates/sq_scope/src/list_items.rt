@@ -22,7 +22,7 @@ pub enum ListItem<'a> {
     },
 }
 
-/// What the item stands for in the scope, or `NoMemory` where memory runs out.
+/// What the item stands for in the scope, or `NoMemory` if memory runs out.
 pub fn chosen<'a>(
     alloc: Global,
     scope: &'a Scope<'a>,

@@ -29,7 +29,7 @@ enum NameFault {
 }
 
 /// The first of three faults that the query has over these relations: that two sources of a FROM have the same name, that a
-/// relation is not there, and that an item of the leftmost block, here or in a query in FROM, has no name. `NoMemory` where
+/// relation is not there, and that an item of the leftmost block, here or in a query in FROM, has no name. `NoMemory` if
 /// memory runs out.
 pub fn names_fault(
     alloc: Global,

@@ -11,7 +11,7 @@ use sq_value::NoMemory;
 use sqlite_items::{Boxed, Items};
 use std::alloc::Global;
 
-/// The expression over the columns of the row, with 0 in the place of a call, or `NoMemory` where memory runs out.
+/// The expression over the columns of the row, with 0 in the place of a call, or `NoMemory` if memory runs out.
 #[cycle(row)]
 #[tactic(auto, using(crate::proofs::TypesTrees::replaced_forms))]
 pub fn row_expr(alloc: Global, row: &Row, tree: &ExprTree) -> Result<Expr, NoMemory>
@@ -61,7 +61,7 @@ fn row_factors(alloc: Global, row: &Row, factors: &[ExprTree]) -> Result<Items<E
     Ok(typed)
 }
 
-/// The condition over the columns of the row, or `NoMemory` where memory runs out.
+/// The condition over the columns of the row, or `NoMemory` if memory runs out.
 #[cycle(row_cond)]
 #[tactic(auto, using(crate::proofs::TypesTrees::replaced_forms))]
 pub fn row_cond(alloc: Global, row: &Row, tree: &CondTree) -> Result<Cond, NoMemory>
@@ -118,7 +118,7 @@ pub fn cmp_of(cmp: CmpTree) -> Cmp
     }
 }
 
-/// The call with its argument over the columns of the row, or `NoMemory` where memory runs out.
+/// The call with its argument over the columns of the row, or `NoMemory` if memory runs out.
 pub fn typed_call(
     alloc: Global,
     row: &Row,

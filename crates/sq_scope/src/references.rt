@@ -1,5 +1,5 @@
 //! Which references of a block find no column, and which find several.
-ghost use Rattle.std.specs.Prelude.{◌≡◌, ◌++◌, take, bytes_eq};
+ghost use Rattle.std.specs.Prelude.{◌≡◌, take};
 ghost use Rattle.std.specs.List.{flat_map, list_any};
 ghost use Rattle.sq_scope.specs.NamesReferences.{is_at_fault};
 ghost use Rattle.sq_scope.specs.Scoped.{ons_from, scoped_by};
@@ -106,7 +106,7 @@ fn any_in_conds(fault: ColumnFault, scope: &Scope, sources: usize, conds: &Items
     any
 }
 
-// Whether a reference in the condition, where there is one, has the fault.
+// Whether a reference in the condition, if there is one, has the fault.
 fn any_in_clause(fault: ColumnFault, scope: &Scope, sources: usize, cond: &Option<CondTree>) -> bool
     ensures { result ≡ list_any (is_at_fault fault (take sources scope.now)) (flat_map refs (exprs_of cond.now)) }
 {

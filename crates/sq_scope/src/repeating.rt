@@ -6,7 +6,7 @@ use sq_value::NoMemory;
 use std::alloc::Global;
 use std::collections::BTreeSet;
 
-/// Whether a name stands twice in the list, or `NoMemory` where memory runs out.
+/// Whether a name stands twice in the list, or `NoMemory` if memory runs out.
 pub fn repeats(alloc: Global, names: &[&str]) -> Result<bool, NoMemory>
     ensures { IfOk result (λ found. found ≡ repeats (map (λ name. name.now) names.now)) }
 {

@@ -34,7 +34,7 @@ impl<'a> Row<'a> {
         }
     }
 
-    // Of so many sources, or of all where there are not so many.
+    // Of so many sources, or of all if there are not so many.
     pub fn front(scope: &'a Scope<'a>, sources: usize) -> Row<'a>
         ensures { result ≡ take sources scope.now }
     {

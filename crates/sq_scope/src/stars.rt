@@ -9,8 +9,8 @@ use sq_value::NoMemory;
 use std::alloc::Global;
 use std::collections::BTreeSet;
 
-/// The items with each star once, however often it is among them: these pass a test where some of all items passes it. The
-/// answer is `NoMemory` where memory runs out.
+/// The items with each star once, however often it is among them: one of these passes a test exactly if one of all items does. The
+/// answer is `NoMemory` if memory runs out.
 pub fn each_star_once<'a>(
     alloc: Global,
     items: &'a [ItemTree],

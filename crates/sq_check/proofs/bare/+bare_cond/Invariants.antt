@@ -1,9 +1,7 @@
-use Rattle.std.proofs.Common.{◌≡◌, map, take}
+use Rattle.std.proofs.Common.{◌≡◌, take}
 use Rattle.std.specs.List.{list_any}
 use Rattle.sq_typed.specs.Leaves.{exprs_in}
-use Rattle.sq_typed.specs.Selected.{written_out}
-use Rattle.sq_check.specs.TypesBare.{bare_expr, bare_item}
-use Rattle.sq_scope.specs.TypesItems.{chosen_of}
+use Rattle.sq_check.specs.TypesBare.{bare_expr}
 use Rattle.sq_check.proofs.bare.+bare_cond.Given as goal
 
 -- whether such a column stands in the conditions so far

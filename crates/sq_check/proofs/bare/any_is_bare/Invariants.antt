@@ -1,8 +1,6 @@
 use Rattle.std.proofs.Common.{◌≡◌, map, take}
 use Rattle.std.specs.List.{list_any}
-use Rattle.sq_typed.specs.Leaves.{exprs_in}
-use Rattle.sq_typed.specs.Selected.{written_out}
-use Rattle.sq_check.specs.TypesBare.{bare_expr, bare_item}
+use Rattle.sq_check.specs.TypesBare.{bare_item}
 use Rattle.sq_scope.specs.TypesItems.{chosen_of}
 use Rattle.sq_check.proofs.bare.any_is_bare.Given as goal
 

@@ -1,5 +1,4 @@
-use Rattle.std.proofs.Common.{◌≡◌, length, map, take}
-use Rattle.std.specs.List.{flat_map}
+use Rattle.std.proofs.Common.{◌≡◌, map, take}
 use Rattle.sq_check.specs.TypesColumns.{up_to}
 use Rattle.sq_check.specs.TypesFrames.{frame_column}
 use Rattle.sq_scope.specs.TypesItems.{chosen_of}

@@ -1,4 +1,4 @@
-use Rattle.std.proofs.Common.{◌≡◌, length, map, take}
+use Rattle.std.proofs.Common.{◌≡◌, map, take}
 use Rattle.std.specs.List.{flat_map}
 use Rattle.sq_typed.specs.Selected.{written_out}
 use Rattle.sq_check.specs.TypesFrames.{frame_column}

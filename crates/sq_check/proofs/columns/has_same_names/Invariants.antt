@@ -1,5 +1,4 @@
-use Rattle.std.proofs.Common.{◌≡◌, length, map, take}
-use Rattle.std.specs.List.{flat_map}
+use Rattle.std.proofs.Common.{◌≡◌, map, take}
 use Rattle.sq_typed.specs.Faults.{names}
 use Rattle.sq_check.proofs.columns.has_same_names.Given as goal
 

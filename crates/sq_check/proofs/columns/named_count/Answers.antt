@@ -1,12 +1,11 @@
-use Rattle.std.proofs.Common.{◌≡◌, ◌≤◌, length, ap, arith, sym, subst, ◌∙◌}
+use Rattle.std.proofs.Common.{◌≤◌, length, ap, arith, sym, subst, ◌∙◌}
 use Rattle.std.specs.Prelude.{bytes_eq}
 use Rattle.std.specs.List.{flat_map}
 use Rattle.std.proofs.lemmas.List.{take_all}
 use Rattle.sq_scope.specs.TypesItems.{starred_at}
 use Rattle.sq_scope.proofs.TypesStars.{is_inside, of_name}
 use Rattle.sq_typed.specs.Scopes.{columns_in}
-use Rattle.sq_typed.specs.Selected.{starred}
-use Rattle.sq_check.proofs.TypesColumnLemmas.{more_count, some_columns}
+use Rattle.sq_check.proofs.TypesColumnLemmas.{some_columns}
 use Rattle.sq_check.proofs.columns.named_count.Goals as goal
 
 pub column_count-more-requires : goal.column_count-more-requires

@@ -1,7 +1,6 @@
-use Rattle.std.proofs.Common.{sym, ap, subst, ◌∙◌, ◌≡◌, false}
+use Rattle.std.proofs.Common.{sym, ap, ◌∙◌}
 use Rattle.std.specs.Prelude.{is_some}
 use Rattle.sq_catalog.specs.Names.{is_named, place_of}
-use Rattle.sq_typed.specs.Resolved.{relation_columns}
 use Rattle.sq_check.proofs.QueriesPlaces.{named_at, unnamed}
 use Rattle.sq_check.proofs.lookup.columns_named.Goals as goal
 

@@ -1,4 +1,4 @@
-use Rattle.std.proofs.Common.{◌≡◌, sym, ap, ◌∙◌, arith, rules}
+use Rattle.std.proofs.Common.{sym, ◌∙◌}
 use Rattle.sq_typed.specs.Faults.{described}
 use Rattle.sq_check.proofs.QueriesProgram.{few_relations, new_name}
 use Rattle.sq_check.proofs.program.add_statement.Goals as goal

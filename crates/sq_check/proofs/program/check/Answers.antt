@@ -1,4 +1,4 @@
-use Rattle.std.proofs.Common.{◌≡◌, sym, ap, ◌∙◌, arith, rules}
+use Rattle.std.proofs.Common.{◌∙◌, arith}
 use Rattle.sq_check.proofs.QueriesProgram.{nothing_yet, counted, one_more, all_done, is_checked, passed, refused_here}
 use Rattle.sq_check.specs.declared.program.CheckFault.TheVariants.{Fault}
 use Rattle.sq_check.proofs.program.check.Goals as goal

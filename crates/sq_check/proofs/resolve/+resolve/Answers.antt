@@ -1,5 +1,5 @@
-use Rattle.std.proofs.Common.{◌≡◌, refl, sym, ap, ◌∙◌, arith, rules}
-use Rattle.sq_check.proofs.QueriesGiven.{stopped, chain_repeats_first, chain_repeats_later, chain_starts, chain_goes, chain_ends, member_repeats, member_first, member_goes, member_ends, member_answers, relation_gives, query_gives, query_repeats, no_sources, source_goes, source_repeats_at, sources_end, sources_repeat, block_answers, gives_after}
+use Rattle.std.proofs.Common.{refl, ◌∙◌, arith, rules}
+use Rattle.sq_check.proofs.QueriesGiven.{stopped, chain_repeats_first, chain_repeats_later, chain_starts, chain_goes, chain_ends, member_repeats, member_goes, member_ends, member_answers, relation_gives, query_gives, query_repeats, no_sources, source_goes, source_repeats_at, sources_end, sources_repeat, block_answers, gives_after}
 use Rattle.sq_typed.specs.Resolved.{widened}
 use Rattle.sq_check.proofs.resolve.+resolve.Goals as goal
 

@@ -1,4 +1,4 @@
-use Rattle.std.proofs.Common.{sym, ap, subst, ◌∙◌}
+use Rattle.std.proofs.Common.{subst, ◌∙◌}
 use Rattle.sq_check.specs.QueriesFound.{Gives}
 use Rattle.sq_check.specs.declared.resolve.Wanted.TheVariants.{Distinct}
 use Rattle.sq_typed.specs.Resolved.{resolved}

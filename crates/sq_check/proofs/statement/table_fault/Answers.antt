@@ -1,4 +1,4 @@
-use Rattle.std.proofs.Common.{length, refl, sym, ap, ◌∙◌, ◌≡◌, true, false}
+use Rattle.std.proofs.Common.{length, refl, sym, ap, ◌∙◌}
 use Rattle.sq_catalog.specs.Names.{is_named}
 use Rattle.sq_check.proofs.QueriesKinds.{named_table, repeated_table, too_much_table, good_table}
 use Rattle.sq_check.proofs.statement.table_fault.Goals as goal

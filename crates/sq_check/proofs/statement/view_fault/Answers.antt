@@ -1,4 +1,4 @@
-use Rattle.std.proofs.Common.{sym, ap, ◌∙◌, ◌≡◌, true, false}
+use Rattle.std.proofs.Common.{sym, ap, ◌∙◌}
 use Rattle.sq_catalog.specs.Names.{is_named}
 use Rattle.sq_check.proofs.QueriesKinds.{named_view, view_with_name_fault, view_answers}
 use Rattle.sq_check.proofs.statement.view_fault.Goals as goal

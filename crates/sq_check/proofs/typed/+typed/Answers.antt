@@ -1,5 +1,4 @@
-use Rattle.std.proofs.Common.{◌≡◌, refl, sym, ap, subst, ◌∙◌, arith, rules, map}
-use Rattle.sq_check.specs.QueriesTyped.{HasSource, HasSources}
+use Rattle.std.proofs.Common.{◌∙◌, arith, rules}
 use Rattle.sq_check.proofs.QueriesTypedLemmas.{chain_answers, members_typed, relation_typed, query_typed, sources_go, block_typed}
 use Rattle.sq_check.proofs.typed.+typed.Goals as goal
 

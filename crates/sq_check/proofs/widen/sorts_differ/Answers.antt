@@ -1,4 +1,4 @@
-use Rattle.std.proofs.Common.{◌≡◌, true, false, suc, ◌+◌, ◌||◌, drop, sym, ap, ◌∙◌, arith}
+use Rattle.std.proofs.Common.{◌≡◌, suc, ◌+◌, ◌||◌, drop, sym, ap, ◌∙◌, arith}
 use Rattle.sq_typed.specs.Faults.{differ_in_sort}
 use Rattle.sq_check.proofs.QueriesPlaces.{sort_step}
 use Rattle.sq_check.proofs.widen.sorts_differ.Goals as goal

@@ -2,7 +2,6 @@ use Rattle.std.proofs.Common.{◌≡◌, take}
 use Rattle.std.specs.List.{flat_map}
 use Rattle.sq_typed.specs.Leaves.{leaves}
 use Rattle.sq_scope.specs.TypesGroups.{with_calls}
-use Rattle.sq_scope.specs.TypesLeaves.{cond_leaves, leaves_of_item}
 use Rattle.sq_scope.proofs.calls.+calls.Given as goal
 
 -- the calls of the terms so far are there

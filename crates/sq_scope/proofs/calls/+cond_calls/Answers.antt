@@ -1,6 +1,5 @@
 use Rattle.std.proofs.Common.{rules}
-use Rattle.sq_typed.specs.Leaves.{leaves}
-use Rattle.sq_scope.specs.TypesLeaves.{cond_leaves, leaves_of_item}
+use Rattle.sq_scope.specs.TypesLeaves.{cond_leaves}
 use Rattle.sq_scope.proofs.TypesCalls.{with_more}
 use Rattle.sq_scope.proofs.calls.+cond_calls.Goals as goal
 

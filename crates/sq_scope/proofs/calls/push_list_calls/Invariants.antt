@@ -1,8 +1,7 @@
 use Rattle.std.proofs.Common.{◌≡◌, take}
 use Rattle.std.specs.List.{flat_map}
-use Rattle.sq_typed.specs.Leaves.{leaves}
 use Rattle.sq_scope.specs.TypesGroups.{with_calls}
-use Rattle.sq_scope.specs.TypesLeaves.{cond_leaves, leaves_of_item}
+use Rattle.sq_scope.specs.TypesLeaves.{leaves_of_item}
 use Rattle.sq_scope.proofs.calls.push_list_calls.Given as goal
 
 -- the calls of the items so far are there
