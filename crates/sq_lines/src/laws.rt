@@ -23,9 +23,7 @@ pub fn lines_number()
     ensures { (relations : List CatalogRelation) (n m : ℕ) (bytes : List ℕ) (why : Cause) → decoded relations n bytes ≡ line.Bad m why → m ≡ n }
 {}
 
-/// No value is lost: a cell is NULL exactly where the column's member is missing or `null`, if no rule on the column refuses
-/// the row.
-#[tactic(auto, using(crate::proofs::FitLemmas::cell_held))]
+/// No value is lost: if no rule on a column refuses the row, its cell is NULL exactly when the column's member is missing or `null`.
 pub fn values_are_kept()
     ensures { (row : Data) (c : CatalogColumn) → has_wrong_type row c ≡ false → is_out_of_range row c ≡ false → holds_nothing (cell row c) ≡ is_null (get c.name row) }
 {}

@@ -6,8 +6,6 @@ pub mod laws;
 mod line;
 mod reading;
 mod table;
-#[cfg(test)]
-mod tests;
 
 pub use line::{Line, RawLine, Why};
 pub use reading::decode;

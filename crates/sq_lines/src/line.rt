@@ -1,14 +1,16 @@
+//! A change line as it was read, and what it says.
 ghost use Rattle.std.specs.Prelude.{◌≡◌};
 ghost use Rattle.sq_lines.specs.Lines.{is_commit as is_commit_line, is_blank as is_blank_line};
 
 use sq_typed::Update;
+use sqlite_items::Items;
 
 /// A line as it was read, without its line end.
 #[derive(Debug, Drop)]
 pub struct RawLine {
     /// Its number, counted from 1.
     pub number: u64,
-    pub bytes: Vec<u8>,
+    pub bytes: Items<u8>,
 }
 
 /// Why a line is bad: the first of these that fits it.

@@ -18,12 +18,12 @@ use std::alloc::Global;
 /// The most bytes that a change line may have.
 const LONGEST_LINE: usize = 1_048_576;
 
-/// What a line says over the relations of the catalogue, or `NoMemory` where memory runs out.
+/// What a line says over the relations of the catalogue. `NoMemory` comes only from a refused allocation.
 ///
-/// The first rule that fits tells why a line is bad, in the order of `Why`. Other members of the line and of its row are
-/// let be; of a member that stands twice the later counts. A missing member and `null` are NULL.
+/// If a line is bad, the first rule that it breaks tells why, in the order of `Why`. Other members of the line and of its
+/// row are passed over. If a member stands twice, the later counts. A missing member and `null` are NULL.
 pub fn decode(alloc: Global, catalog: &Catalog, line: &RawLine) -> Result<Line, NoMemory>
-    ensures { IfOk result (λ l. l ≡ decoded catalog.now line.now.number line.now.bytes.items) }
+    ensures { IfOk result (λ l. l ≡ decoded catalog.now line.now.number line.now.bytes) }
 {
     let bytes = line.bytes.as_slice();
     if bytes.len() > LONGEST_LINE {
@@ -115,7 +115,8 @@ fn operation_line(
     inserted: Option<&Json>,
     deleted: Option<&Json>,
 ) -> Result<Line, NoMemory>
-    ensures { IfOk result (λ l. l ≡ operation_line_lem number (table, relation.now) (option_map (λ v. view v.now) inserted.entry) (option_map (λ v. view v.now) deleted.entry)) }
+    ensures { IfOk result (λ l. l ≡ operation_line_lem number (table, relation.now) (option_map (λ v. view v.now) inserted.entry)
+        (option_map (λ v. view v.now) deleted.entry)) }
 {
     match (inserted, deleted) {
         (Some(row), None) => row_line(alloc, number, table, relation, true, row),
