@@ -5,7 +5,7 @@
 ghost use Rattle.std.specs.Prelude.{◌≡◌};
 
 use sq_base::{FreeGate, StdSink, StdSource};
-use sq_top::top;
+use sq_top::{Status, top};
 use sq_value::{NoMemory, Str};
 use std::alloc::AllocFailed;
 use std::process::ExitCode;
@@ -15,8 +15,18 @@ use std::{env, io};
 /// Why the system did not hand over the words of the command line.
 #[derive(Clone, Copy, Debug, PartialEq, Eq)]
 enum WordsFault {
-    Memory = 7,
-    Refused = 9,
+    Memory,
+    Refused,
+}
+
+impl WordsFault {
+    // The number that the program ends with: that of the status, or one that no status has.
+    fn code(self) -> u8 {
+        match self {
+            WordsFault::Memory => Status::NoMemory.code(),
+            WordsFault::Refused => 9,
+        }
+    }
 }
 
 impl From<NoMemory> for WordsFault {
@@ -52,7 +62,7 @@ fn words<R: Env + AllocGlobal>(rt: &R) -> Result<Vec<Str>, WordsFault> {
 fn main(rt: HostRuntime) -> ExitCode {
     let words = match words(&rt) {
         Ok(words) => words,
-        Err(fault) => return ExitCode::from(fault as u8),
+        Err(fault) => return ExitCode::from(fault.code()),
     };
     let mut input = StdSource::new(rt.stdin());
     let mut out = StdSink::new(rt.stdout());
@@ -66,5 +76,5 @@ fn main(rt: HostRuntime) -> ExitCode {
         &mut err,
         &FreeGate,
     );
-    ExitCode::from(status as u8)
+    ExitCode::from(status.code())
 }

@@ -5,7 +5,6 @@ use Rattle.std.specs.List.{flat_map}
 use Rattle.std.specs.Ordering.{is_eq}
 use Rattle.std.proofs.lemmas.Grind.{flat_map-append}
 use Rattle.std.proofs.lemmas.List.{take_more}
-use Rattle.std.proofs.lemmas.List.Folds.{flat_map-map}
 use Rattle.std.proofs.lemmas.List.Sums.{count_by-le-length}
 use Rattle.std.proofs.lemmas.Option.{get_or_from_slice_get, slice_get_within}
 use Rattle.std.specs.Prelude.{slice_get}
@@ -15,14 +14,14 @@ use Rattle.sq_value.specs.Order.{row_cmp}
 use Rattle.sq_value.specs.OrderLaws.{row_cmp-total, row_cmp-antisymmetric}
 use Rattle.sq_value.specs.Count.{count}
 use Rattle.sq_algebra.specs.Listed.{changed}
-use Rattle.sq_algebra.specs.ZSet.{ZSet, entries, from_pairs, of_list, minus}
+use Rattle.sq_algebra.specs.ZSet.{ZSet, entries, from_pairs, of_list, minus, weight_in}
 use Rattle.sq_algebra.proofs.Changes.{entries_change}
-use Rattle.sq_algebra.proofs.Weights.{weight-of_list, weight-minus, same_weights}
+use Rattle.sq_algebra.proofs.Weights.{weight-entries, weight-of_list, weight-minus, same_weights}
 use Rattle.sq_zset.specs.Range.{is_in_range, first_outside_in, first_outside}
 use Rattle.sq_catalog.specs.declared.relation.Relation.{Relation}
 use Rattle.sq_typed.specs.From.{Row}
 use Rattle.sq_top.specs.Relations.{is_printed}
-use Rattle.sq_top.specs.Texts.{rise, rise_text, view_text}
+use Rattle.sq_top.specs.Texts.{rise, changes, rise_text, view_text}
 
 -- a list counted is its difference from no rows
 of_list_from_none : (rows : List Row) → of_list row_cmp rows ≡ minus (of_list row_cmp rows) (of_list row_cmp [])
@@ -64,10 +63,13 @@ text_more f es i e at =
     sym (ap (flat_map f) (take_more es i e (slice_get_within es i e at) ∙ ap (λ x. take i es ++ x ∷ []) (get_or_from_slice_get es i e e at))
     ∙ flat_map-append f (take i es) (e ∷ []) ∙ ap (λ t. flat_map f (take i es) ++ t) (append-nil (f e)))
 
-pub text_of_change : (view : Relation) (before now : List Row) (es : List (Row × ℤ)) → es ≡ map (λ r. (r, rise before now r)) (changed row_cmp before now)
-    → flat_map (λ (e : Row × ℤ). rise_text view e.0 e.1) es ≡ flat_map (λ r. rise_text view r (rise before now r)) (changed row_cmp before now)
-text_of_change view before now es e =
-    ap (flat_map (λ (e : Row × ℤ). rise_text view e.0 e.1)) e ∙ flat_map-map (λ (e : Row × ℤ). rise_text view e.0 e.1) (λ r. (r, rise before now r)) (changed row_cmp before now)
+-- the number beside a row among the changes is the rise of its count
+pub told_rise : (row : Row) (before now : List Row) → weight_in row_cmp row (changes before now) ≡ rise before now row
+told_rise row before now =
+    ap (weight_in row_cmp row) (sym (entries_change row_cmp row_cmp-total row_cmp-antisymmetric before now))
+    ∙ sym (weight-entries row_cmp row (minus (of_list row_cmp now) (of_list row_cmp before)))
+    ∙ weight-minus row_cmp row_cmp-total row (of_list row_cmp now) (of_list row_cmp before)
+    ∙ ap₂ ◌-ℤ◌ (weight-of_list row_cmp row_cmp-total row now) (weight-of_list row_cmp row_cmp-total row before)
 
 -- pairs of weight 1 add up to the counts of their rows
 pub counted : (pairs : List (Row × ℤ)) (rows : List Row) → pairs ≡ map (λ r. (r, pos 1)) rows → from_pairs row_cmp pairs ≡ of_list row_cmp rows
@@ -92,8 +94,7 @@ change_entries old new change before now e f g =
 
 -- the change of a view that is printed
 pub view_text_of : (view : Relation) (before now : List Row) (es : List (Row × ℤ)) (b : Bool) → b ≡ is_printed view.kind → b ≡ true
-    → es ≡ map (λ r. (r, rise before now r)) (changed row_cmp before now)
-    → flat_map (λ (e : Row × ℤ). rise_text view e.0 e.1) es ≡ view_text view before now
+    → es ≡ changes before now → flat_map (λ (e : Row × ℤ). rise_text view e.0 e.1) es ≡ view_text view before now
 view_text_of view before now es b is printed e =
     let yes_printed : is_printed view.kind ≡ true = sym is ∙ printed in
-    text_of_change view before now es e ∙ (rw yes_printed refl)
+    ap (flat_map (λ (e : Row × ℤ). rise_text view e.0 e.1)) e ∙ (rw yes_printed refl)

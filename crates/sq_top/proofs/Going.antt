@@ -1,9 +1,8 @@
 -- What stays true from line to line of a run.
-use Rattle.std.specs.Prelude.{◌||◌, cond, map}
+use Rattle.std.specs.Prelude.{◌||◌, cond}
 use Rattle.std.proofs.Common.{◌≡◌, ℕ, ◌+◌, ◌<◌, ◌≤◌, List, [], ◌∷◌, ◌++◌, length, take, Bool, true, false, Option, Some, None, refl, sym, ap, subst, ◌∙◌, arith, append-nil, append_assoc, length-append}
-use Rattle.std.specs.List.{list_any, enumerate_from}
+use Rattle.std.specs.List.{list_any}
 use Rattle.std.specs.Io.KnownBytes.{Appends, Keeps}
-use Rattle.std.proofs.lemmas.List.Splits.{length-slice_split}
 use Rattle.std.proofs.lemmas.List.Folds.{list_any-append}
 use Rattle.std.proofs.Math.Seq.{take-append_seam, take-append-add}
 use Rattle.std.proofs.lemmas.List.{take-append-le}
@@ -18,7 +17,7 @@ use Rattle.sq_top.specs.declared.run.Stop.{Stop}
 use Rattle.sq_top.specs.declared.run.Stop.TheVariants.{Memory, Write}
 use Rattle.sq_top.specs.Lines.{lines_of}
 use Rattle.sq_top.specs.Relations.{empty_tables}
-use Rattle.sq_top.specs.Ticks.{Report, Outcome, accepted, is_refusal, outcome, lines_from, reports_from, ticks_of}
+use Rattle.sq_top.specs.Ticks.{Report, accepted, is_refusal, lines_from, reports_from, ticks_of}
 use Rattle.sq_top.specs.Texts.{tick_text, change_text}
 use Rattle.sq_top.specs.Output.{reports, texts_from}
 use Rattle.sq_top.specs.Runs.{in_front, still, brought, played, IsStart, Stands, Stopped, StoppedWithin}

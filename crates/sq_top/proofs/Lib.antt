@@ -12,3 +12,4 @@ mod RelationLemmas
 mod ProgramLemmas
 mod UpdateLemmas
 mod CommaLemmas
+mod PrefixLemmas

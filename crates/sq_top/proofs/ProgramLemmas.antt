@@ -1,19 +1,18 @@
--- An input has at most one program, and none where it has a fault.
-use Rattle.std.proofs.Common.{◌≡◌, ℕ, ◌<◌, ◌≤◌, List, length, true, false, Some, None, refl, sym, ap, subst, ◌∙◌, arith}
-use Rattle.std.specs.Str.{IsUtf8}
+-- An input has at most one program, and none if it has a fault, and at most one fault.
+use Rattle.std.proofs.Common.{◌≡◌, ℕ, ◌<◌, ◌≤◌, List, length, Some, None, refl, sym, ap, ap₂, subst, ◌∙◌, arith}
 use Rattle.sq_token.specs.declared.token.Token.{Token}
-use Rattle.sq_token.specs.Reading.{Tokens}
-use Rattle.sq_token.proofs.Outcomes.{list_once, list_or_fault}
+use Rattle.sq_token.proofs.Outcomes.{list_once, list_or_fault, fault_once}
 use Rattle.sq_ast.specs.declared.statement.Statement.{Statement}
-use Rattle.sq_ast.specs.Spelling.{Spells, kinds}
+use Rattle.sq_ast.specs.Spelling.{kinds}
 use Rattle.sq_ast.specs.Refusal as refusal
 use Rattle.sq_ast.proofs.Programs as spelled
-use Rattle.sq_typed.specs.Programs.{Typed, program_of}
-use Rattle.sq_typed.specs.Faults.{refused}
 use Rattle.sq_typed.specs.Views.{Meant}
-use Rattle.sq_top.specs.Lines.{lines_of, has_end_line, text_before_end}
+use Rattle.sq_typed.specs.declared.check_kind.CheckKind.{CheckKind}
+use Rattle.sq_top.specs.Lines.{lines_of, text_before_end}
 use Rattle.sq_top.specs.Programs.{longest_text, empty_verdict, IsText, Mean, SpellProgram, IsProgramText, IsProgram, StatementsFault, TokensFault, TextFault, HasFault, check, range, too_deep, not_grammar, in_statements, not_utf8, lex, in_tokens, text_too_long, no_end_too_long, no_end, in_text}
+use Rattle.sq_top.specs.Relations.{view_name}
 use Rattle.sq_top.specs.declared.program_fault.ProgramFault.{ProgramFault}
+use Rattle.sq_top.specs.declared.program_fault.ProgramFault.TheVariants as faults
 
 -- ---- one program
 
@@ -64,3 +63,73 @@ not_both input p fault s (no_end_too_long without long) = let ended = s.is_text.
 not_both input p fault s (no_end without short) = let ended = s.is_text.ended in cc
 not_both input p fault s (in_text {text = text} is wrong) =
     fault_of_text text p fault (subst (λ x. IsProgramText x p) (s.is_text.before ∙ sym is.before) s.is_program) wrong
+
+-- ---- one fault
+
+same_statements_fault : (statements : List Statement) (a b : ProgramFault) → StatementsFault statements a → StatementsFault statements b → a ≡ b
+same_statements_fault statements a b (check {n = n} {kind = k} e) (check {n = m} {kind = l} f) =
+    let same : Some (n, k) ≡ Some (m, l) = sym e ∙ f in
+    let pairs : ◌≡◌ {A = ℕ × CheckKind} (n, k) (m, l) = cc in
+    ap₂ faults.Check (ap (λ x. x.0) pairs) (ap (λ x. x.1) pairs)
+same_statements_fault statements a b (check e) (range q none typed f) = let fault = e in cc
+same_statements_fault statements a b (range p none typed f) (check e) = let fault = e in cc
+same_statements_fault statements a b (range {view = v} p none typed e) (range {view = w} q clear meant f) =
+    let same : p ≡ q = typed ∙ sym meant in
+    let at : Some v ≡ Some w = sym e ∙ ap empty_verdict same ∙ f in
+    let number : v ≡ w = cc in
+    ap₂ (λ (m : Meant) n. faults.Range (view_name m.catalog n)) same number
+
+same_tokens_fault : (tokens : List Token) (a b : ProgramFault) → TokensFault tokens a → TokensFault tokens b → a ≡ b
+same_tokens_fault tokens a b (too_deep {n = n} r) (too_deep {n = m} s) =
+    let same : refusal.TooDeep n ≡ refusal.TooDeep m = spelled.one_refusal (kinds tokens) _ _ r s in cc
+same_tokens_fault tokens a b (too_deep {n = n} r) (not_grammar {n = m} s) =
+    let same : refusal.TooDeep n ≡ refusal.NotGrammar m = spelled.one_refusal (kinds tokens) _ _ r s in cc
+same_tokens_fault tokens a b (not_grammar {n = n} r) (too_deep {n = m} s) =
+    let same : refusal.NotGrammar n ≡ refusal.TooDeep m = spelled.one_refusal (kinds tokens) _ _ r s in cc
+same_tokens_fault tokens a b (not_grammar {n = n} r) (not_grammar {n = m} s) =
+    let same : refusal.NotGrammar n ≡ refusal.NotGrammar m = spelled.one_refusal (kinds tokens) _ _ r s in cc
+same_tokens_fault tokens a b (too_deep r) (in_statements list sp wrong) = absurd (spelled.not_both (kinds tokens) list _ sp r)
+same_tokens_fault tokens a b (not_grammar r) (in_statements list sp wrong) = absurd (spelled.not_both (kinds tokens) list _ sp r)
+same_tokens_fault tokens a b (in_statements list sp wrong) (too_deep r) = absurd (spelled.not_both (kinds tokens) list _ sp r)
+same_tokens_fault tokens a b (in_statements list sp wrong) (not_grammar r) = absurd (spelled.not_both (kinds tokens) list _ sp r)
+same_tokens_fault tokens a b (in_statements list sp wrong) (in_statements other tp bad) =
+    let same : list ≡ other = spelled.one_program (kinds tokens) list other sp tp in
+    same_statements_fault other a b (subst (λ x. StatementsFault x a) same wrong) bad
+
+same_text_fault : (text : List ℕ) (a b : ProgramFault) → TextFault text a → TextFault text b → a ≡ b
+same_text_fault text a b (not_utf8 unlike) (not_utf8 other) = refl
+same_text_fault text a b (not_utf8 unlike) (lex utf8 first) = absurd (unlike utf8)
+same_text_fault text a b (not_utf8 unlike) (in_tokens tokens utf8 lexed wrong) = absurd (unlike utf8)
+same_text_fault text a b (lex utf8 first) (not_utf8 unlike) = absurd (unlike utf8)
+same_text_fault text a b (lex {fault = f} utf8 first) (lex {fault = g} clean second) = ap faults.Lex (fault_once text f g first second)
+same_text_fault text a b (lex {fault = f} utf8 first) (in_tokens tokens clean lexed wrong) = absurd (list_or_fault text tokens f lexed first)
+same_text_fault text a b (in_tokens tokens utf8 lexed wrong) (not_utf8 unlike) = absurd (unlike utf8)
+same_text_fault text a b (in_tokens tokens utf8 lexed wrong) (lex {fault = g} clean second) = absurd (list_or_fault text tokens g lexed second)
+same_text_fault text a b (in_tokens tokens utf8 lexed wrong) (in_tokens others clean read bad) =
+    let same : tokens ≡ others = list_once text tokens others lexed read in
+    same_tokens_fault others a b (subst (λ x. TokensFault x a) same wrong) bad
+
+-- a text that is too long, or that has no end line, has no fault of its own
+no_text : (input text : List ℕ) → IsText input text → longest_text < length (text_before_end (lines_of input)) → ⊥
+no_text input text is long =
+    let short : length (text_before_end (lines_of input)) ≤ longest_text = subst (λ x. length x ≤ longest_text) is.before is.short in
+    absurd (omega arith)
+
+pub one_fault : (input : List ℕ) (a b : ProgramFault) → HasFault input a → HasFault input b → a ≡ b
+one_fault input a b (text_too_long ended long) (text_too_long e l) = refl
+one_fault input a b (text_too_long ended long) (no_end_too_long without l) = refl
+one_fault input a b (text_too_long ended long) (no_end without short) = let has = ended in cc
+one_fault input a b (text_too_long ended long) (in_text {text = text} is wrong) = absurd (no_text input text is long)
+one_fault input a b (no_end_too_long without long) (text_too_long ended l) = refl
+one_fault input a b (no_end_too_long without long) (no_end_too_long w l) = refl
+one_fault input a b (no_end_too_long without long) (no_end w short) = absurd (omega arith)
+one_fault input a b (no_end_too_long without long) (in_text is wrong) = let ended = is.ended in cc
+one_fault input a b (no_end without short) (text_too_long ended long) = let has = ended in cc
+one_fault input a b (no_end without short) (no_end_too_long w long) = absurd (omega arith)
+one_fault input a b (no_end without short) (no_end w s) = refl
+one_fault input a b (no_end without short) (in_text is wrong) = let ended = is.ended in cc
+one_fault input a b (in_text {text = text} is wrong) (text_too_long ended long) = absurd (no_text input text is long)
+one_fault input a b (in_text is wrong) (no_end_too_long without long) = let ended = is.ended in cc
+one_fault input a b (in_text is wrong) (no_end without short) = let ended = is.ended in cc
+one_fault input a b (in_text {text = text} is wrong) (in_text {text = other} other_is bad) =
+    same_text_fault other a b (subst (λ x. TextFault x a) (is.before ∙ sym other_is.before) wrong) bad

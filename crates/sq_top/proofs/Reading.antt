@@ -1,6 +1,8 @@
 -- What stays true while an input is read.
 use Rattle.std.proofs.Common.{◌≡◌, ℕ, ◌+◌, ◌≤◌, List, [], ◌++◌, length, Option, Some, None, refl, sym, ap, ◌∙◌, subst, arith, append_assoc, length-append}
+use Rattle.std.specs.Prelude.{◌-◌}
 use Rattle.std.specs.Io.KnownBytes.{Consumes}
+use Rattle.sq_top.specs.Statuses.{GivesAtMost}
 
 pub consumes_none : (x : Option (List ℕ)) → Consumes x x []
 consumes_none None = tt
@@ -29,3 +31,9 @@ taken_more left now next before after last most count bytes more piece t e long 
   later = omega (arith, t.later);
   within = omega (arith, ap length e, length-append bytes piece);
 }
+
+-- what was taken before a read that failed, and what that read took, are together no more than the most
+pub given_more : (left now next : Option (List ℕ)) (before after most len : ℕ) (bytes : List ℕ) → Taken left now before after most bytes
+    → len ≡ length bytes → GivesAtMost (most - len) now next → GivesAtMost most left next
+given_more left now next before after most len bytes t e g =
+    (bytes ++ g.0, consumes_chain left now next bytes g.0 t.consumed g.1, omega (arith, t.within, e, g.2, length-append bytes g.0))

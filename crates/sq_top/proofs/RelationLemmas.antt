@@ -1,6 +1,6 @@
 -- Going through the relations of a program, one after the other.
-use Rattle.std.proofs.Common.{◌≡◌, ℕ, zero, suc, ◌+◌, ◌<◌, List, [], ◌∷◌, ◌++◌, length, get_or, take, drop, Bool, true, false, Option, Some, None, refl, sym, ap, subst, ◌∙◌, arith, append-nil, append_assoc}
-use Rattle.std.specs.Prelude.{map, slice_get, filter}
+use Rattle.std.proofs.Common.{◌≡◌, ℕ, zero, suc, ◌+◌, ◌<◌, List, [], ◌∷◌, ◌++◌, length, get_or, drop, true, false, Some, refl, sym, ap, subst, ◌∙◌, arith, append_assoc}
+use Rattle.std.specs.Prelude.{slice_get}
 use Rattle.std.specs.List.{flat_map, enumerate_from}
 use Rattle.std.proofs.lemmas.Option.{same_Some, slice_get_read}
 use Rattle.sq_catalog.specs.declared.relation.Relation.{Relation}
@@ -8,7 +8,7 @@ use Rattle.sq_catalog.specs.declared.relation.RelationKind.{RelationKind}
 use Rattle.sq_catalog.specs.declared.relation.RelationKind.TheVariants.{Table, View}
 use Rattle.sq_typed.specs.From.{Row}
 use Rattle.sq_typed.specs.Laws.{rows_in}
-use Rattle.sq_top.specs.Relations.{empty_tables, is_view, is_printed, name_of, view_name, views_of}
+use Rattle.sq_top.specs.Relations.{empty_tables, is_view, name_of, view_name, views_of}
 use Rattle.sq_typed.specs.Tables.{Tables}
 use Rattle.sq_top.specs.Texts.{view_text}
 

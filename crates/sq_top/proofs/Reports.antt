@@ -1,19 +1,18 @@
 -- What one more line does to the ticks that are to come.
 use Rattle.std.specs.Prelude.{if◌then◌else◌}
-use Rattle.std.proofs.Common.{◌≡◌, ℕ, ◌+◌, ◌<◌, List, [], ◌∷◌, ◌++◌, length, Bool, true, false, Option, refl, sym, subst, arith, append-nil}
+use Rattle.std.proofs.Common.{◌≡◌, ℕ, ◌<◌, List, [], ◌∷◌, ◌++◌, length, Bool, true, false, Option, refl, sym, subst, arith, append-nil}
 use Rattle.std.specs.List.{list_all}
 use Rattle.std.specs.Prelude.{IfErr, Result}
 use Rattle.std.proofs.lemmas.List.Splits.{length-slice_split}
 use Rattle.sq_lines.specs.Lines.{is_commit, is_blank}
 use Rattle.sq_lines.specs.declared.line.Line.{Line}
 use Rattle.sq_lists.specs.Shown.{shown}
-use Rattle.sq_typed.specs.From.{Row}
 use Rattle.sq_typed.specs.Tables.{Tables}
 use Rattle.sq_typed.specs.Views.{Meant}
 use Rattle.sq_top.specs.declared.refusal.Refusal.TheVariants.{Unfinished}
 use Rattle.sq_top.specs.declared.run.Run.{Run}
 use Rattle.sq_top.specs.declared.run.Stop.{Stop}
-use Rattle.sq_top.specs.Ticks.{Report, Outcome, outcome, refused, tables_after, ticks_of, reports_from}
+use Rattle.sq_top.specs.Ticks.{Report, outcome, refused, tables_after, ticks_of, reports_from}
 use Rattle.sq_top.specs.Texts.{tick_text}
 use Rattle.sq_top.specs.Output.{texts_from}
 use Rattle.sq_top.specs.Runs.{in_front, still, brought, played, IsClosed, Stands, Stopped}

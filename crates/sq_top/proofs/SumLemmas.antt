@@ -1,6 +1,6 @@
 -- The changes that were printed add up.
 use Rattle.std.specs.Prelude.{◌-ℤ◌, ◌+ℤ◌, ℤ, pos, if◌then◌else◌}
-use Rattle.std.proofs.Common.{◌≡◌, ℕ, zero, suc, ◌+◌, List, [], ◌∷◌, take, Bool, true, false, refl, sym, ap, ◌∙◌, subst, arith}
+use Rattle.std.proofs.Common.{◌≡◌, ℕ, zero, suc, ◌+◌, List, [], ◌∷◌, take, Bool, true, false, ap, ◌∙◌, subst, arith}
 use Rattle.std.specs.List.{list_all}
 use borrow.Author.Differences.{ints}
 use Rattle.sq_lines.specs.Lines.{is_blank}
@@ -12,6 +12,7 @@ use Rattle.sq_typed.specs.Tables.{Tables}
 use Rattle.sq_typed.specs.Views.{Meant}
 use Rattle.sq_value.specs.Count.{count}
 use Rattle.sq_top.specs.declared.refusal.Refusal.TheVariants.{Unfinished}
+use Rattle.sq_top.proofs.ChangeLemmas.{told_rise}
 use Rattle.sq_top.specs.Output.{reports}
 use Rattle.sq_top.specs.Relations.{empty_tables}
 use Rattle.sq_top.specs.Sums.{printed, printed_sum, tables_now}
@@ -35,7 +36,7 @@ module _ (p : Meant) (view : ℕ) (row : Row) where
   held tables = count row (rows_in (shown p tables) view)
 
   one : (tables : Tables) (o : Outcome) → printed p view row (shown p tables) o ≡ pos (held (tables_after tables o)) -ℤ pos (held tables)
-  one tables (accepted now) = refl
+  one tables (accepted now) = told_rise row (rows_in (shown p tables) view) (rows_in (shown p now) view)
   one tables (refused why) = none_from (held tables)
 
   -- the lines after the last commit line change nothing
@@ -57,9 +58,13 @@ module _ (p : Meant) (view : ℕ) (row : Row) where
       chain _ _ (held tables) (held (tables_after tables (outcome p tables tick))) _ (one tables (outcome p tables tick))
       (sum_from (tables_after tables (outcome p tables tick)) (next ∷ ticks) k)
 
+  first : (tables : Tables) (s : ℤ) (c : ℕ) → s ≡ pos c -ℤ pos (held tables) → printed p view row [] (accepted tables) +ℤ s ≡ pos c
+  first tables s c e =
+      ap (λ t. t +ℤ s) (told_rise row [] (rows_in (shown p tables) view)) ∙ first_added s (held tables) c e
+
   add_up : (lines : List (List ℕ)) (k : ℕ) → printed_sum p view row (take (suc k) (reports p lines))
       ≡ pos (held (tables_now (empty_tables p.catalog) (take (suc k) (reports p lines))))
-  add_up lines k = first_added _ (held (empty_tables p.catalog)) _ (sum_from (empty_tables p.catalog) (ticks_of (lines_from p.catalog 1 lines)) k)
+  add_up lines k = first (empty_tables p.catalog) _ _ (sum_from (empty_tables p.catalog) (ticks_of (lines_from p.catalog 1 lines)) k)
 
 pub changes_add_up : (p : Meant) (lines : List (List ℕ)) (k view : ℕ) (row : Row)
     → printed_sum p view row (take (k + 1) (reports p lines))

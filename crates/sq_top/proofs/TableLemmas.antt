@@ -1,6 +1,6 @@
 -- Tables of the kinds of a program's columns, and what an update makes of them.
 use Rattle.std.proofs.Common.{◌≡◌, ℕ, zero, suc, ◌<◌, ◌≤◌, List, [], ◌∷◌, ◌++◌, length, get_or, Bool, true, false, if◌then◌else◌, Option, Some, None, refl, sym, ap, subst, ◌∙◌, arith}
-use Rattle.std.specs.Prelude.{option_map, slice_get, slice_set, map, drop, filter}
+use Rattle.std.specs.Prelude.{option_map, slice_get, slice_set, drop}
 use Rattle.std.specs.List.{AllByRecursion}
 use Rattle.std.specs.Ordering.{is_eq}
 use Rattle.std.proofs.lemmas.List.{get_or_default}
@@ -21,7 +21,7 @@ use Rattle.sq_typed.specs.Laws.{by_kind, rows_in}
 use Rattle.sq_typed.specs.Tables.{Tables, at_table, changed_rows, removed}
 use Rattle.sq_typed.specs.Views.{first_rows}
 use Rattle.sq_typed.specs.declared.update.Update.{Update}
-use Rattle.sq_typed.proofs.Tests.{Mapped, mapped_some}
+use Rattle.sq_typed.proofs.Tests.{mapped_some}
 use Rattle.sq_value.specs.Order.{row_cmp}
 use Rattle.sq_lines.specs.Fit.{UpdateFits, LineFits}
 use Rattle.sq_top.specs.Fits.{Fits}

@@ -1,6 +1,5 @@
 -- A tick over lines none of which is bad makes their updates.
-use Rattle.std.proofs.Common.{◌≡◌, ℕ, List, [], ◌∷◌, Bool, true, false, Option, Some, None, refl, ap}
-use Rattle.std.specs.Prelude.{◌||◌}
+use Rattle.std.proofs.Common.{◌≡◌, ℕ, List, [], ◌∷◌, false, Option, Some, None, refl}
 use Rattle.sq_lines.specs.declared.line.Line.{Line}
 use Rattle.sq_lines.specs.declared.line.Line.TheVariants as line
 use Rattle.sq_typed.specs.Tables.{Tables, after, at_table, changed_rows, go_on}

@@ -8,7 +8,6 @@ use Rattle.sq_top.specs.Relations.{empty_tables, view_name}
 use Rattle.sq_top.specs.declared.judge.JudgeStop.{JudgeStop}
 use Rattle.sq_top.specs.declared.judge.JudgeStop.TheVariants.{Fault, Memory}
 use Rattle.sq_top.specs.declared.judge.Judged.{Judged}
-use Rattle.sq_top.specs.declared.program_fault.ProgramFault.{ProgramFault}
 use Rattle.sq_top.specs.declared.program_fault.ProgramFault.TheVariants as faults
 
 -- the tables are empty, and the views are listed over them

@@ -11,5 +11,6 @@ pub mod Programs
 pub mod Judgements
 pub mod FaultTexts
 pub mod Runs
+pub mod Prefixes
 pub mod Statuses
 pub mod Sums

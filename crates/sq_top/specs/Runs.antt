@@ -1,9 +1,8 @@
 -- Where a run of ticks stands, and what is still to be told.
-use Rattle.std.specs.Prelude.{◌≡◌, ℕ, ◌+◌, ◌≤◌, false, List, [], ◌∷◌, ◌++◌, ◌||◌, length, take, if◌then◌else◌, Option, ⊤}
+use Rattle.std.specs.Prelude.{◌≡◌, ℕ, ◌+◌, ◌≤◌, false, List, [], ◌∷◌, ◌++◌, ◌||◌, length, take, if◌then◌else◌, Option}
 use Rattle.std.specs.List.{AllByRecursion}
 use Rattle.std.specs.Io.KnownBytes.{Appends, Keeps}
 use Rattle.sq_base.specs.Causes.{Rose}
-use Rattle.sq_catalog.specs.declared.relation.Relation.{Relation}
 use Rattle.sq_top.specs.Fits.{Fits}
 use Rattle.sq_lines.specs.declared.line.Line.{Line}
 use Rattle.sq_lists.specs.Shown.{shown}

@@ -1,17 +1,29 @@
 -- What each status of a run says of the objects that it was handed.
-use Rattle.std.specs.Prelude.{◌≡◌, ◌≢◌, ◌⊎◌, ℕ, ◌<◌, ◌≤◌, List, [], length, take, true, false, Option, IfSome, ⊤, codes}
-use Rattle.std.specs.Io.KnownBytes.{Appends, Keeps, IsAtEnd}
+use Rattle.std.specs.Prelude.{◌≡◌, ◌≢◌, ◌⊎◌, ℕ, ◌+◌, ◌<◌, ◌≤◌, List, [], length, take, true, false, Option, IfSome, ⊤, codes}
+use Rattle.std.specs.Io.KnownBytes.{Appends, Consumes, Keeps, IsAtEnd}
 use Rattle.sq_base.specs.Causes.{Rose}
 use Rattle.sq_top.specs.Lines.{lines_of, lines_after_end}
 use Rattle.sq_top.specs.Output.{has_refusal, output, reports, texts_from}
 use Rattle.sq_typed.specs.Views.{Meant}
 use Rattle.sq_top.specs.Programs.{HasFault, IsProgram}
 use Rattle.sq_top.specs.FaultTexts.{fault_text}
+use Rattle.sq_top.specs.Prefixes.{TakesPrefix}
 use Rattle.sq_top.specs.declared.program_fault.ProgramFault.{ProgramFault}
 use Rattle.sq_top.specs.declared.session.Ending.{Ending}
 use Rattle.sq_top.specs.declared.session.Ending.TheVariants.{Ends, Refused}
 use Rattle.sq_top.specs.declared.statuses.Status.{Status}
 use Rattle.sq_top.specs.declared.statuses.Status.TheVariants.{Done, Usage, DoneWithRefusals, BadProgram, ReadFault, WriteFault, NoMemory, TooLong}
+
+-- the number that the program ends with
+abbrev pub code_of : Status → ℕ
+code_of Done = 0
+code_of Usage = 2
+code_of DoneWithRefusals = 3
+code_of BadProgram = 4
+code_of ReadFault = 5
+code_of WriteFault = 6
+code_of NoMemory = 7
+code_of TooLong = 8
 
 -- the whole output was written
 abbrev pub IsFinished : Status → Type 0
@@ -35,12 +47,22 @@ IsUnwritten ReadFault = ⊤
 IsUnwritten TooLong = ⊤
 IsUnwritten _ = ⊥
 
--- What a status says of the source, by the bytes that it had left before and has left now, where it tells them, and its
--- counts of faults.
+-- the source gave at most so many bytes
+abbrev pub GivesAtMost : ℕ → Option (List ℕ) → Option (List ℕ) → Type 0
+GivesAtMost most left now = (bytes : List ℕ) × Consumes left now bytes × (length bytes ≤ most)
+
+-- the source gave exactly so many bytes
+abbrev pub GivesExactly : ℕ → Option (List ℕ) → Option (List ℕ) → Type 0
+GivesExactly count left now = (bytes : List ℕ) × Consumes left now bytes × (length bytes ≡ count)
+
+-- What a status says of the source, by the bytes that it had left before and has left now, if it tells them, and its counts
+-- of faults: it gave all of them, or one byte more than the limit, and never more than that.
 pub record Reads (limit : ℕ) (left now : Option (List ℕ)) (before after : ℕ) (status : Status) : Type 0 where
   pub to_end : IsRead status → IsAtEnd now
   pub within : IsRead status → IfSome left (λ input. length input ≤ limit)
   pub too_long : status ≡ TooLong → IfSome left (λ input. limit < length input)
+  pub given : GivesAtMost (limit + 1) left now
+  pub over : status ≡ TooLong → GivesExactly (limit + 1) left now
   pub fault : status ≡ ReadFault → Rose before after
 
 -- What a status says of the input.
@@ -63,8 +85,8 @@ abbrev pub IsBlocks : Option (List ℕ) → Option (List ℕ) → List ℕ → T
 IsBlocks taken now input = Keeps taken now
     ⊎ ((p : Meant) × IsProgram input p × ((k : ℕ) × Appends taken now (texts_from p 0 (take k (reports p (lines_after_end (lines_of input)))))))
 
--- What a status says of the sink for the output: it took the whole output, nothing, where a write failed a prefix, and
--- for want of memory whole blocks and refusals.
+-- What a status says of the sink for the output: it took the whole output, nothing, a prefix if a write failed, and whole
+-- blocks and refusals if memory ran out.
 pub record Writes (left taken now : Option (List ℕ)) (before after : ℕ) (status : Status) : Type 0 where
   pub whole : IsFinished status → IfSome left (IsWhole taken now)
   pub nothing : IsUnwritten status → Keeps taken now
@@ -72,7 +94,7 @@ pub record Writes (left taken now : Option (List ℕ)) (before after : ℕ) (sta
   pub blocks : status ≡ NoMemory → IfSome left (IsBlocks taken now)
   pub fault : status ≡ WriteFault → Rose before after
 
--- the one line that tells of a status, where it has no fault to tell of, or nothing
+-- the one line that tells of a status that has no fault to tell of, or nothing
 abbrev pub status_line : Status → List ℕ
 status_line Done = []
 status_line Usage = []
@@ -87,6 +109,11 @@ status_line TooLong = codes "{\"status\":\"input too long\"}\n"
 abbrev pub Tells : Option (List ℕ) → Option (List ℕ) → Option (List ℕ) → Status → Type 0
 Tells left taken now BadProgram = (fault : ProgramFault) × IfSome left (λ input. HasFault input fault) × Appends taken now (fault_text fault)
 Tells left taken now status = Appends taken now (status_line status)
+
+-- What the sink for errors took, also if it failed: a prefix of that line.
+abbrev pub TellsPrefix : Option (List ℕ) → Option (List ℕ) → Option (List ℕ) → Status → Type 0
+TellsPrefix left taken now BadProgram = (fault : ProgramFault) × IfSome left (λ input. HasFault input fault) × TakesPrefix taken now (fault_text fault)
+TellsPrefix left taken now status = TakesPrefix taken now (status_line status)
 
 -- the line that tells of an ending
 abbrev pub ending_line : Ending → List ℕ

@@ -6,12 +6,14 @@ use Rattle.sq_typed.specs.Laws.{rows_in}
 use Rattle.sq_typed.specs.Tables.{Tables}
 use Rattle.sq_typed.specs.Views.{Meant}
 use Rattle.sq_top.specs.Ticks.{Outcome, Report, accepted, refused, tables_after}
-use Rattle.sq_top.specs.Texts.{rise}
+use Rattle.sq_top.specs.Texts.{changes}
+use Rattle.sq_value.specs.Order.{row_cmp}
+use Rattle.sq_algebra.specs.ZSet.{weight_in}
 
--- by how much a tick says that the count of a row in a view rose: the number that is printed for it where the view is printed,
--- a delete with a minus
+-- the sum of the numbers that a tick tells for a row of a view, deletes with a minus: those beside the row among the view's
+-- changes, of which the text has one line each if the view is printed
 abbrev pub printed : Meant → ℕ → Row → List (List Row) → Outcome → ℤ
-printed p view row before (accepted now) = rise (rows_in before view) (rows_in (shown p now) view) row
+printed p view row before (accepted now) = weight_in row_cmp row (changes (rows_in before view) (rows_in (shown p now) view))
 printed p view row before (refused why) = pos 0
 
 -- the sum of the numbers that are printed for a row of a view in some ticks

@@ -52,7 +52,11 @@ change_line_text operation view row times =
 abbrev pub rise : List Row → List Row → Row → ℤ
 rise before now row = pos (count row now) -ℤ pos (count row before)
 
--- the line of a row: an insert where its count rose, and a delete where it fell (`negsuc n` is the whole number -(n + 1))
+-- the rows whose counts differ in the two lists, in row order, each with the rise of its count
+abbrev pub changes : List Row → List Row → List (Row × ℤ)
+changes before now = map (λ row. (row, rise before now row)) (changed row_cmp before now)
+
+-- the line of a row: an insert if its count rose, and a delete if it fell (`negsuc n` is the whole number -(n + 1))
 abbrev pub rise_text : Relation → Row → ℤ → List ℕ
 rise_text view row (pos n) = change_line_text (codes "insert") view row n
 rise_text view row (negsuc n) = change_line_text (codes "delete") view row (n + 1)
@@ -60,7 +64,7 @@ rise_text view row (negsuc n) = change_line_text (codes "delete") view row (n + 
 -- the change of a view, if it is printed: a line for each row whose count changed, in row order
 abbrev pub view_text : Relation → List Row → List Row → List ℕ
 view_text view before now =
-    if is_printed view.kind then flat_map (λ row. rise_text view row (rise before now row)) (changed row_cmp before now) else []
+    if is_printed view.kind then flat_map (λ change. rise_text view change.0 change.1) (changes before now) else []
 
 -- the changes of all views in order of creation; a view that is not among the lists had no rows
 abbrev pub views_text : List Relation → List (List Row) → List (List Row) → List ℕ

@@ -5,7 +5,7 @@ ghost use Rattle.sq_base.specs.Causes.{Rose};
 ghost use Rattle.sq_typed.specs.Views.{Meant};
 ghost use Rattle.sq_top.specs.Output.{output};
 ghost use Rattle.sq_top.specs.Programs.{IsProgram};
-ghost use Rattle.sq_top.specs.Statuses.{IsFinished, Reads, Judges, Writes, Tells};
+ghost use Rattle.sq_top.specs.Statuses.{IsFinished, Reads, Judges, Writes, Tells, TellsPrefix};
 
 use crate::session::run_input;
 use crate::statuses::Status;
@@ -17,10 +17,10 @@ use std::thread::Threads;
 /// The most bytes that an input may have.
 const LONGEST_INPUT: u64 = 1 << 40;
 
-/// Does all that the program does, for the words of its command line after its own name: without any, it is `serve`
-/// with one worker and an input of at most 2^40 bytes.
+/// Does all that the program does, for the words of its command line after its own name. Without any it is `serve` with one
+/// worker and an input of at most 2^40 bytes.
 ///
-/// Any word is `Usage`, and then nothing is read, written or called.
+/// If there is a word, the answer is `Usage`, and nothing is read, written or called.
 pub fn top<R: Threads + Sync, S: Source, K: Sink, E: Sink, G: Gate>(
     rt: &R,
     alloc: Global,
@@ -42,6 +42,7 @@ pub fn top<R: Threads + Sync, S: Source, K: Sink, E: Sink, G: Gate>(
         (K.faults out.old) (K.faults out.new) result }
     ensures told { (Rose (E.faults err.old) (E.faults err.new) → ⊥)
         → Tells (S.left input.old) (E.taken err.old) (E.taken err.new) result }
+    ensures told_prefix { TellsPrefix (S.left input.old) (E.taken err.old) (E.taken err.new) result }
 {
     if !words.is_empty() {
         return Status::Usage;
@@ -53,8 +54,9 @@ pub fn top<R: Threads + Sync, S: Source, K: Sink, E: Sink, G: Gate>(
 /// each tick to `out`: at `Done` and `DoneWithRefusals` exactly `output` of the program and of the bytes that the input
 /// held, however they came in pieces and whatever `workers` is.
 ///
-/// At most `limit` bytes are read. Where the status tells of a fault, its one line goes to `err`, whose own faults are
-/// passed over. The gate is not called yet.
+/// An input of more than `limit` bytes is `TooLong`: then exactly `limit` + 1 bytes were read, and never more. If the status
+/// tells of a fault, its one line goes to `err`. If a write to `err` fails, that fault is passed over, and `err` holds a
+/// prefix of the line. `NoMemory` comes only from a refused allocation. The gate is not called yet.
 pub fn serve<R: Threads + Sync, S: Source, K: Sink, E: Sink, G: Gate>(
     rt: &R,
     alloc: Global,
@@ -76,6 +78,7 @@ pub fn serve<R: Threads + Sync, S: Source, K: Sink, E: Sink, G: Gate>(
         (K.faults out.old) (K.faults out.new) result }
     ensures told { (Rose (E.faults err.old) (E.faults err.new) → ⊥)
         → Tells (S.left input.old) (E.taken err.old) (E.taken err.new) result }
+    ensures told_prefix { TellsPrefix (S.left input.old) (E.taken err.old) (E.taken err.new) result }
     ensures no_usage { result ≢ Status.Usage }
 {
     run_input(alloc, input, out, limit).tell(err)

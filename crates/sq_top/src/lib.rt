@@ -1,7 +1,7 @@
 //! The program of Keltzumba as one call: `top` reads the words and the input, and writes the changes of the views.
 //!
-//! So far the views are computed anew over lists of rows at each tick. The ticks and the printed texts are private parts
-//! of this crate.
+//! So far each tick computes every view anew from the tables. The ticks and the printed texts are private parts of this
+//! crate.
 #![tactic(auto)]
 
 mod calls;
@@ -25,9 +25,9 @@ mod tick;
 pub use calls::{serve, top};
 pub use statuses::Status;
 
-#[cfg(test)]
-mod example_tests;
-#[cfg(test)]
-mod program_tests;
-#[cfg(test)]
-mod tests;
+fn is_send_and_sync<T: Send + Sync>() {}
+
+// A status may be handed to another thread, and be shared.
+fn data_crosses_threads() {
+    is_send_and_sync::<Status>();
+}

@@ -17,6 +17,7 @@ use sq_base::Sink;
 use sq_catalog::Catalog;
 use sq_lines::{Line, RawLine, decode};
 use sq_value::NoMemory;
+use sqlite_items::Items;
 use std::alloc::Global;
 
 /// Plays change lines from empty tables on, and prints block 0 and what each tick brings. Answers whether a tick was
@@ -57,6 +58,6 @@ fn read_line(alloc: Global, catalog: &Catalog, number: u64, bytes: &[u8]) -> Res
     ensures says { IfOk result (λ line. line ≡ decoded catalog.now number bytes.now) }
     ensures fits { IfOk result (Fits catalog.now) }
 {
-    let bytes = Vec::from_slice(alloc, bytes)?;
+    let bytes = Items::from_slice(alloc, bytes)?;
     decode(alloc, catalog, &RawLine { number, bytes })
 }

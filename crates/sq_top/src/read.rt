@@ -2,6 +2,7 @@
 ghost use Rattle.std.specs.Prelude.{◌≡◌, ◌+◌, ◌<◌, ◌≤◌, ◌^◌, ◌++◌, ℕ, List, length, IfOk, IsErrOf};
 ghost use Rattle.std.specs.Io.KnownBytes.{Consumes, IsAtEnd};
 ghost use Rattle.sq_base.specs.Causes.{Rose};
+ghost use Rattle.sq_top.specs.Statuses.{GivesAtMost, GivesExactly};
 
 use sq_base::{Failed, Source};
 use std::alloc::{AllocError, Global};
@@ -34,14 +35,15 @@ impl From<AllocError> for ReadStop {
     }
 }
 
-/// The whole input, where it has at most `limit` bytes. At `TooLong` one byte more than that was taken.
+/// The whole input, if it has at most `limit` bytes. At `TooLong` exactly one byte more than that was taken, and never more.
 pub fn read_all<S: Source>(alloc: Global, input: &mut S, limit: u64) -> Result<Vec<u8>, ReadStop>
     requires { limit ≤ 2 ^ 40 }
     ensures whole { IfOk result (λ bytes. Consumes (S.left input.old) (S.left input.new) bytes.items) }
     ensures to_end { IfOk result (λ _. IsAtEnd (S.left input.new)) }
     ensures within { IfOk result (λ bytes. length bytes.items ≤ limit) }
     ensures too_long { IsErrOf result ReadStop.TooLong
-        → (bytes : List ℕ) × Consumes (S.left input.old) (S.left input.new) bytes × (length bytes ≡ limit + 1) }
+        → GivesExactly (limit + 1) (S.left input.old) (S.left input.new) }
+    ensures given { GivesAtMost (limit + 1) (S.left input.old) (S.left input.new) }
     ensures failed { IsErrOf result ReadStop.Failed → Rose (S.faults input.old) (S.faults input.new) }
 {
     let mut bytes = Vec::new(alloc);
@@ -66,6 +68,7 @@ fn read_piece<S: Source>(input: &mut S, room: usize, bytes: &mut Vec<u8>) -> Res
     ensures bound { IfOk result (λ count. count ≤ room) }
     ensures to_end { IfOk result (λ count. count ≡ 0 → IsAtEnd (S.left input.new)) }
     ensures failed { IsErrOf result ReadStop.Failed → Rose (S.faults input.old) (S.faults input.new) }
+    ensures given { GivesAtMost room (S.left input.old) (S.left input.new) }
     ensures no_limit { IsErrOf result ReadStop.TooLong → ⊥ }
     ensures later { S.faults input.old ≤ S.faults input.new }
 {

@@ -2,6 +2,7 @@
 ghost use Rattle.std.specs.Prelude.{◌≡◌, ◌≢◌, ◌⊎◌, ◌≤◌, ◌^◌, length, Some};
 ghost use Rattle.std.specs.Io.KnownBytes.{Appends};
 ghost use Rattle.sq_base.specs.Causes.{Rose};
+ghost use Rattle.sq_top.specs.Prefixes.{TakesPrefix};
 ghost use Rattle.sq_top.specs.Statuses.{ending_line, IsRead, Reads, Judges, Writes, Names, Refuses, status_of};
 
 use crate::fault_lines::fault_line;
@@ -10,8 +11,9 @@ use crate::play::play_lines;
 use crate::program_fault::ProgramFault;
 use crate::read::{ReadStop, read_all};
 use crate::run::Stop;
-use crate::statuses::Status;
-use sq_base::{Sink, Source, put_all};
+use crate::statuses::{Status, put_line};
+use sq_base::{Sink, Source};
+use sq_value::NoMemory;
 use std::alloc::Global;
 
 /// How a run ends: with a status, or with the line that tells of the fault of its program.
@@ -22,11 +24,13 @@ pub enum Ending {
 }
 
 impl Ending {
-    /// Writes the one line that tells of this ending, where it has one, and answers its status. A fault of `err` is passed over.
+    /// Writes the one line that tells of this ending, if it has one, and answers its status. A fault of `err` is passed over,
+    /// and then a prefix of the line was written.
     pub fn tell<E: Sink>(self, err: &mut E) -> Status
         ensures status { result ≡ status_of self }
         ensures told { (Rose (E.faults err.old) (E.faults err.new) → ⊥)
             → Appends (E.taken err.old) (E.taken err.new) (ending_line self) }
+        ensures prefix { TakesPrefix (E.taken err.old) (E.taken err.new) (ending_line self) }
     {
         match self {
             Ending::Ends(status) => {
@@ -34,7 +38,7 @@ impl Ending {
                 status
             }
             Ending::Refused(line) => {
-                let _ = put_all(err, &line);
+                put_line(err, &line);
                 Status::BadProgram
             }
         }
@@ -93,6 +97,6 @@ fn refuse(alloc: Global, fault: &ProgramFault) -> Ending
 {
     match fault_line(alloc, fault) {
         Ok(line) => Ending::Refused(line),
-        Err(_) => Ending::Ends(Status::NoMemory),
+        Err(NoMemory) => Ending::Ends(Status::NoMemory),
     }
 }

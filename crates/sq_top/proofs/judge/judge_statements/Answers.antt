@@ -1,6 +1,6 @@
-use Rattle.std.proofs.lemmas.Result.{err_from_is_err_and, IfOk-weaker, IfErr-weaker}
+use Rattle.std.proofs.lemmas.Result.{err_from_is_err_and, IfErr-weaker}
 use Rattle.std.proofs.Common.{ap, Err}
-use Rattle.sq_top.proofs.Judging.{check_stops, judged_mean, range_stops}
+use Rattle.sq_top.proofs.Judging.{check_stops, range_stops}
 use Rattle.sq_top.proofs.judge.judge_statements.Goals as goal
 
 pub returns-in_err-program-clause-refused : goal.returns-in_err-program-clause-refused

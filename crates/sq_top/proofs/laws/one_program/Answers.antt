@@ -1,6 +1,9 @@
 use Rattle.sq_top.proofs.ProgramLemmas as input
 use Rattle.sq_top.proofs.laws.one_program.Goals as goal
 
+pub returns-clause-one_fault : goal.returns-clause-one_fault
+returns-clause-one_fault c = input.one_fault
+
 pub returns-clause-one : goal.returns-clause-one
 returns-clause-one c = input.one_program
 

@@ -7,5 +7,5 @@ use Rattle.sq_top.proofs.play.read_line.Goals as goal
 pub returns-clause-fits : goal.returns-clause-fits
 returns-clause-fits c =
     IfOk-weaker c.decode.result _ _
-    (λ l e. line_fits c.args.catalog.now c.args.number c.args.bytes.now l (e ∙ ap (decoded c.args.catalog.now c.args.number) c.in_ok-bytes.ensures.items))
+    (λ l e. line_fits c.args.catalog.now c.args.number c.args.bytes.now l (e ∙ ap (decoded c.args.catalog.now c.args.number) c.in_ok-bytes.ensures))
     c.decode.ensures
