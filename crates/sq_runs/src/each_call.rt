@@ -1,0 +1,71 @@
+//! Runs of which each call of the source, or of the sink for the output, fails in turn.
+use crate::case::Case;
+use crate::play::{Outcome, play_failing};
+use crate::wanted::Wanted;
+use anyhow::bail;
+use sq_base::{Failed, Sink, Source};
+use sq_top::Status;
+use std::alloc::Global;
+use std::thread::Threads;
+
+/// More calls than any run makes.
+const MOST_CALLS: u64 = 1000;
+
+/// Lets each read fail in turn, until a run goes through. Answers how many runs ended with the fault.
+///
+/// The call behind the failing one would fail too, so it is seen that it was not made.
+pub fn count_failing_reads<R: Threads + Sync>(
+    rt: &R,
+    alloc: Global,
+    case: Case<'_>,
+    input: &[u8],
+    wanted: &Wanted,
+) -> anyhow::Result<u64> {
+    for call in 0..MOST_CALLS {
+        let failing = vec![in alloc; call, call + 1]?;
+        let mut outcome = play_failing(rt, alloc, case, input, failing, Vec::new(alloc))?;
+        if wanted.agrees(&outcome) {
+            return Ok(call);
+        }
+        if !is_read_fault(&mut outcome) {
+            bail!("read {call} is not told");
+        }
+    }
+    bail!("no run goes through")
+}
+
+fn is_read_fault(outcome: &mut Outcome) -> bool {
+    outcome.status == Status::ReadFault
+        && outcome.out.taken().is_empty()
+        && outcome.err.taken() == b"{\"status\":\"read fault\"}\n".as_slice()
+        && outcome.input.read(&mut [0; 4]) == Err(Failed)
+}
+
+/// The same for the writes of the output, of which a prefix is taken.
+pub fn count_failing_writes<R: Threads + Sync>(
+    rt: &R,
+    alloc: Global,
+    case: Case<'_>,
+    input: &[u8],
+    wanted: &Wanted,
+) -> anyhow::Result<u64> {
+    for call in 0..MOST_CALLS {
+        let failing = vec![in alloc; call, call + 1]?;
+        let mut outcome = play_failing(rt, alloc, case, input, Vec::new(alloc), failing)?;
+        if wanted.agrees(&outcome) {
+            return Ok(call);
+        }
+        if !is_write_fault(&mut outcome, wanted) {
+            bail!("write {call} is not told");
+        }
+    }
+    bail!("no run goes through")
+}
+
+fn is_write_fault(outcome: &mut Outcome, wanted: &Wanted) -> bool {
+    outcome.status == Status::WriteFault
+        && wanted.output.starts_with(outcome.out.taken())
+        && outcome.out.taken().len() < wanted.output.len()
+        && outcome.err.taken() == b"{\"status\":\"write fault\"}\n".as_slice()
+        && outcome.out.write(b"x") == Err(Failed)
+}
