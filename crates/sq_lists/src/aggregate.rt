@@ -40,7 +40,7 @@ pub(crate) fn values_on(alloc: Global, expr: &Expr, rows: &[Row]) -> Result<Vec<
     Ok(values)
 }
 
-// The sum with one more value, where NULL is none. A sum is None once a text was added.
+// The sum with one more value, in which NULL counts for nothing. A sum is None once a text was added.
 fn add_value(sum: Option<i128>, value: &Value, before: usize) -> Option<i128>
     requires sum { IsSumOf before sum }
     requires before { before < 2 ^ 62 }
@@ -54,7 +54,7 @@ fn add_value(sum: Option<i128>, value: &Value, before: usize) -> Option<i128>
     }
 }
 
-// The sum of the values other than NULL. None where one of them is a text.
+// The sum of the values other than NULL. None if one of them is a text.
 fn sum_of(values: &[Value]) -> Option<i128>
     ensures { sum_value result ≡ sum_of (present values.now) }
 {
@@ -83,7 +83,7 @@ fn count_present(values: &[Value]) -> usize
     count
 }
 
-// Which of two values is the less, or the greater; the first where they are the same.
+// Which of two values is the less, or the greater; the first if they are the same.
 fn better<'a>(greatest: bool, chosen: &'a Value, value: &'a Value) -> &'a Value
     ensures { result.now ≡ better greatest chosen.now value.now }
 {
@@ -95,7 +95,7 @@ fn better<'a>(greatest: bool, chosen: &'a Value, value: &'a Value) -> &'a Value
     if takes_place { value } else { chosen }
 }
 
-// What is chosen of the values so far and one more, where NULL is none.
+// What is chosen of the values so far and one more, of which NULL counts for nothing.
 fn choose<'a>(greatest: bool, chosen: Option<&'a Value>, value: &'a Value) -> Option<&'a Value>
     ensures { option_copied result ≡ (if is_null value.now then option_copied chosen.entry else Some (unwrap_or (option_map (λ x. better greatest x value.now) (option_copied chosen.entry)) value.now)) }
 {
@@ -119,7 +119,7 @@ fn extreme(greatest: bool, values: &[Value]) -> Option<&Value>
     chosen
 }
 
-// The argument of a call on each of the rows; none where it has no argument.
+// The argument of a call on each of the rows; none if it has no argument.
 pub(crate) fn arguments(alloc: Global, arg: &Option<Expr>, rows: &[Row]) -> Result<Vec<Value>, Stop>
     requires { AllByRecursion (ArgumentFits arg.now) rows.now }
     ensures ok { IfOk result (λ values. values.items ≡ arguments arg.now rows.now) }
@@ -148,7 +148,7 @@ fn stored(sum: Option<i128>) -> Result<Value, Stop>
 }
 
 #[tactic(auto, using(crate::proofs::Values::sum_of_none, crate::proofs::Values::sum_of_some))]
-// The sum of the values other than NULL; NULL where there is none.
+// The sum of the values other than NULL; NULL if there is none.
 fn sum_or_null(values: &[Value]) -> Result<Value, Stop>
     ensures ok { IfOk result (λ value. value ≡ sum_or_null (present values.now)) }
     ensures inside { OnOk result (is_outside (sum_or_null (present values.now)) ≡ false) }
@@ -161,7 +161,7 @@ fn sum_or_null(values: &[Value]) -> Result<Value, Stop>
     }
 }
 
-// The least or the greatest of the values other than NULL; NULL where there is none.
+// The least or the greatest of the values other than NULL; NULL if there is none.
 fn extreme_or_null(alloc: Global, greatest: bool, values: &[Value]) -> Result<Value, NoMemory>
     ensures { IfOk result (λ value. value ≡ unwrap_or (extreme greatest (present values.now)) Null) }
 {

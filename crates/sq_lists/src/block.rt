@@ -63,7 +63,7 @@ fn where_rows(
     kept(alloc, &conds, sources, listings)
 }
 
-// The rows of a block in the order of its clauses, where its sources list these rows.
+// The rows of a block in the order of its clauses, if its sources list these rows.
 fn clause_rows(
     alloc: Global,
     block: &Block,
@@ -84,19 +84,18 @@ fn clause_rows(
     Ok(rows)
 }
 
-/// The rows of a block, where its sources list these rows: what WHERE keeps, grouped, selected, and each once where repeats
-/// are to go. `Range` where the rows at a place of the block are too many, or a number of its calls or items is outside
-/// BIGINT.
+/// The rows of a block whose sources list these rows: what WHERE keeps, grouped, selected, and each once if repeats are to
+/// go. `Range` comes if the rows at a place of the block are too many, or a number of its calls or items is outside BIGINT.
 pub(crate) fn block_rows(
     alloc: Global,
     block: &Block,
     listings: &[Listing],
 ) -> Result<Vec<Row>, Stop>
     requires many { length (out-Block block.now).sources ≡ length listings.now }
-    requires suits { BlockSuits (sources_with (out-Block block.now).sources listings.now) (out-Block block.now).filter (out-Block block.now).grouping (out-Block block.now).items }
-    ensures ok { IfOk result (λ rows. rows.items ≡ (block_answer (out-Block block.now).distinct (sources_with (out-Block block.now).sources listings.now) (out-Block block.now).filter (out-Block block.now).grouping (out-Block block.now).items).rows) }
-    ensures inside { OnOk result (has_own_fault (sources_with (out-Block block.now).sources listings.now) (out-Block block.now).filter (out-Block block.now).grouping (out-Block block.now).items ≡ false) }
-    ensures range { result ≡ Err Stop.Range → has_own_fault (sources_with (out-Block block.now).sources listings.now) (out-Block block.now).filter (out-Block block.now).grouping (out-Block block.now).items ≡ true }
+    requires suits { let b = out-Block block.now in BlockSuits (sources_with b.sources listings.now) b.filter b.grouping b.items }
+    ensures ok { let b = out-Block block.now in IfOk result (λ rows. rows.items ≡ (block_answer b.distinct (sources_with b.sources listings.now) b.filter b.grouping b.items).rows) }
+    ensures inside { let b = out-Block block.now in OnOk result (has_own_fault (sources_with b.sources listings.now) b.filter b.grouping b.items ≡ false) }
+    ensures range { let b = out-Block block.now in result ≡ Err Stop.Range → has_own_fault (sources_with b.sources listings.now) b.filter b.grouping b.items ≡ true }
 {
     clause_rows(
         alloc,

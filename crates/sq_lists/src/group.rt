@@ -18,7 +18,7 @@ use sq_typed::{BlockCall, Grouping};
 use sq_value::{NoMemory, Row, Value};
 use std::alloc::Global;
 
-// The value in a column; NULL where the row has no such column.
+// The value in a column; NULL if the row has no such column.
 fn column_of(alloc: Global, row: &Row, column: u32) -> Result<Value, NoMemory>
     ensures { IfOk result (λ value. value ≡ column_of row.now column) }
 {
@@ -54,7 +54,7 @@ fn keys_of(alloc: Global, columns: &[u32], rows: &[Row]) -> Result<Vec<Row>, NoM
     Ok(keys)
 }
 
-// Appends a copy of the row, where it has this key.
+// Appends a copy of the row, if it has this key.
 fn push_member(
     alloc: Global,
     columns: &[u32],

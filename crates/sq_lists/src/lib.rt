@@ -1,7 +1,7 @@
 //! The views of a program over its tables, computed from scratch over lists of rows.
 //!
-//! This is the plain way: each source, block and set operation is listed as the meaning of queries says. It needs memory
-//! for each listed row, and its cost goes with the product of the sources.
+//! Each source, block and set operation is listed as the meaning of queries says. This needs memory for each listed row,
+//! and time in proportion to the product of the sources.
 #![tactic(auto)]
 
 mod aggregate;
@@ -22,3 +22,10 @@ pub(crate) use listing::Listing;
 pub use refusal::ViewsStop;
 pub(crate) use stop::Stop;
 pub use views::list_views;
+
+fn is_send_and_sync<T: Send + Sync>() {}
+
+// A refusal may be handed to another thread, and be shared.
+fn data_crosses_threads() {
+    is_send_and_sync::<ViewsStop>();
+}

@@ -1,3 +1,4 @@
+//! The rows that a relation, a source or a query lists.
 ghost use Rattle.std.specs.Prelude.{◌≡◌, []};
 
 use sq_value::Row;

@@ -61,7 +61,7 @@ fn next_of_common(alloc: Global, before: Option<Listing>, more: Listing) -> Resu
 
 /// What the query lists over these relations, in the order of nested loops.
 ///
-/// The relations hold rows of kinds over which the query fits. `Range` comes exactly where a place of the query lists more
+/// The relations hold rows of kinds over which the query fits. `Range` comes exactly if a place of the query lists more
 /// than 2^61 rows, or a number that is tested lies outside BIGINT.
 #[cycle(answer)]
 pub(crate) fn list_query(
@@ -101,7 +101,8 @@ pub(crate) fn list_query(
 #[cycle(answer)]
 fn list_block(alloc: Global, relations: &[Listing], block: &Block) -> Result<Listing, Stop>
     requires { CanAnswer (map contents_of relations.now) (query.Block block.now) }
-    ensures { MatchResult result (λ l. Lists l (answer (map contents_of relations.now) (query.Block block.now))) (λ stop. stop ≡ Stop.Range → has_range_fault (answer (map contents_of relations.now) (query.Block block.now)) ≡ true) }
+    ensures { let a = answer (map contents_of relations.now) (query.Block block.now) in
+        MatchResult result (λ l. Lists l a) (λ stop. stop ≡ Stop.Range → has_range_fault a ≡ true) }
 {
     let sources = list_sources(alloc, relations, &block.sources)?;
     let rows = block_rows(alloc, block, &sources)?;

@@ -1,3 +1,4 @@
+//! Why the views of a program are not listed.
 ghost use Rattle.std.specs.Prelude.{◌≡◌};
 
 use sq_value::NoMemory;
@@ -9,7 +10,7 @@ pub enum ViewsStop {
     /// The view with this number, counted from 0 among the views, is the first that has a place of more than 2^61 rows or a
     /// tested number outside BIGINT.
     Range { view: u32 },
-    /// Memory ran out.
+    /// An allocation was refused.
     Memory,
 }
 

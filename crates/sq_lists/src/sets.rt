@@ -22,7 +22,7 @@ fn count_of(row: &Row, rows: &[Row]) -> usize
     found
 }
 
-// Appends a copy of the row, where the list does not have it yet.
+// Appends a copy of the row, if the list does not have it yet.
 fn push_new(alloc: Global, row: &Row, to: &mut Vec<Row>) -> Result<(), NoMemory>
     ensures { OnOk result (to.new.items ≡ to.old.items ++ (if count row.now to.old.items == 0 then row.now ∷ [] else [])) }
 {
@@ -43,7 +43,7 @@ pub(crate) fn first_of_each(alloc: Global, rows: &[Row]) -> Result<Vec<Row>, NoM
     Ok(firsts)
 }
 
-// Appends a copy of the row, where the other list has it.
+// Appends a copy of the row, if the other list has it.
 fn push_if_there(
     alloc: Global,
     others: &[Row],
@@ -58,7 +58,7 @@ fn push_if_there(
     Ok(())
 }
 
-// Appends a copy of the row, where the other list does not have it.
+// Appends a copy of the row, if the other list does not have it.
 fn push_if_missing(
     alloc: Global,
     others: &[Row],
@@ -153,7 +153,7 @@ pub(crate) fn intersect_rows(
     among(alloc, &firsts, more)
 }
 
-/// The rows, each once where repeats are to go.
+/// The rows, each once if repeats are to go.
 pub(crate) fn without_repeats(
     alloc: Global,
     distinct: bool,

@@ -1,3 +1,4 @@
+//! Why a query is not listed.
 ghost use Rattle.std.specs.Prelude.{◌≡◌};
 
 use sq_expr::ItemFault;

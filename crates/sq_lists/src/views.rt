@@ -30,7 +30,7 @@ struct SoFar {
     views: u32,
 }
 
-// The rows of this table; none where there are fewer tables.
+// The rows of this table, and none if there are fewer tables.
 fn table_rows(alloc: Global, tables: &[Items<Row>], table: usize) -> Result<Vec<Row>, NoMemory>
     ensures { IfOk result (λ rows. rows.items ≡ first_rows (drop table tables.now)) }
 {
@@ -131,7 +131,8 @@ fn with_relation(
 
 /// The rows of each view, in order of creation, over tables that hold rows of the kinds of their columns.
 ///
-/// `Range` names the first view that is out of range, and comes only where there is one.
+/// `Range` names the first view that is out of range, and comes only if there is one. `Memory` comes only from a refused
+/// allocation.
 pub fn list_views(
     alloc: Global,
     program: &Program,
