@@ -3,7 +3,8 @@ ghost use Rattle.std.specs.Prelude.{◌≡◌, IfOk, map, option_map};
 ghost use Rattle.std.specs.List.{list_any};
 ghost use Rattle.serde_json.specs.View.{view, number_view};
 ghost use Rattle.serde_json.specs.Find.{as_i64, as_integer};
-ghost use Rattle.sq_lines.specs.Cells.{is_null as is_null_lem, is_missing as is_missing_lem, is_number as is_number_lem, is_unlike as is_unlike_lem, has_wrong_type as has_wrong_type_lem, is_beyond, number_outside as number_outside_lem, is_out_of_range as is_out_of_range_lem, number_cell as number_cell_lem, value_of as value_of_lem, cell as cell_lem};
+ghost use Rattle.sq_lines.specs.Cells.{is_null as is_null_lem, is_missing as is_missing_lem, is_number as is_number_lem, is_unlike as is_unlike_lem, has_wrong_type as has_wrong_type_lem};
+ghost use Rattle.sq_lines.specs.Cells.{is_beyond, number_outside as number_outside_lem, is_out_of_range as is_out_of_range_lem, number_cell as number_cell_lem, value_of as value_of_lem, cell as cell_lem};
 
 use serde_json::{Number, Value as Json};
 use sq_catalog::Column;

@@ -3,7 +3,8 @@ ghost use Rattle.std.specs.Prelude.{◌≡◌, IfOk, option_map, codes};
 ghost use Rattle.std.specs.List.{list_all};
 ghost use Rattle.serde_json.specs.View.{view, members_view};
 ghost use Rattle.serde_json.specs.Find.{as_object, get};
-ghost use Rattle.sq_lines.specs.Lines.{decoded, is_blank_byte, json_of as json_of_lem, is_true as is_true_lem, asks_commit as asks_commit_lem, cells_line as cells_line_lem, row_line as row_line_lem, operation_line as operation_line_lem, table_line as table_line_lem, object_line as object_line_lem, json_line as json_line_lem};
+ghost use Rattle.sq_lines.specs.Lines.{decoded, is_blank_byte, json_of as json_of_lem, is_true as is_true_lem, asks_commit as asks_commit_lem};
+ghost use Rattle.sq_lines.specs.Lines.{cells_line as cells_line_lem, row_line as row_line_lem, operation_line as operation_line_lem, table_line as table_line_lem, object_line as object_line_lem, json_line as json_line_lem};
 ghost use Rattle.sq_lines.specs.Tables.{table_meant as table_meant_lem};
 
 use crate::cells::{any_missing, any_out_of_range, any_wrong_type, cells};

@@ -5,7 +5,7 @@ use Rattle.sq_expr.specs.declared.value.ItemFault.TheVariants as item
 use Rattle.sq_lists.specs.declared.stop.Stop.{Stop}
 use Rattle.sq_lists.specs.declared.stop.Stop.TheVariants.{Range, Memory}
 
--- a stop for range comes only where a test of it is passed; want of memory comes freely
+-- a stop for range comes only where a test of it is passed; running out of memory comes freely
 abbrev pub Stopped : Stop → Bool → Type 0
 Stopped Range outside = outside ≡ true
 Stopped Memory outside = ⊤

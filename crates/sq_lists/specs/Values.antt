@@ -14,7 +14,7 @@ use Rattle.sq_typed.specs.Blocks.{arguments, call_value, columns_of, is_sum, pre
 use Rattle.sq_typed.specs.From.{Row}
 use Rattle.sq_typed.specs.Queries.{is_outside}
 
--- a sum as a value: NULL where a text was added
+-- a sum as a value: NULL if a text was added
 abbrev pub sum_value : Option ℤ → Value
 sum_value None = Null
 sum_value (Some x) = Int x

@@ -1,5 +1,5 @@
 //! The values of aggregate calls over the rows of a group.
-ghost use Rattle.std.specs.Prelude.{◌≡◌, ◌≤◌, ◌<◌, ◌^◌, ◌+◌, ◌+ℤ◌, ◌&&◌, pos, if◌then◌else◌, map, length, IfOk, OnOk, Err, true, false, option_copied, option_map, unwrap_or, Some};
+ghost use Rattle.std.specs.Prelude.{◌≡◌, ◌<◌, ◌^◌, ◌+◌, ◌+ℤ◌, ◌&&◌, pos, if◌then◌else◌, map, length, IfOk, OnOk, Err, true, false, option_copied, option_map, unwrap_or, Some};
 ghost use Rattle.std.specs.List.{AllByRecursion, list_any};
 ghost use Rattle.sq_expr.specs.Fits.{Fits};
 ghost use Rattle.sq_value.specs.declared.value.Value.TheVariants.{Int, Null};

@@ -1,7 +1,7 @@
 //! The rows of a block from those of its sources.
 ghost use Rattle.std.specs.Prelude.{◌≡◌, IfOk, OnOk, Err, Some, [], ◌∷◌, true, false, length};
 ghost use Rattle.std.specs.List.{list_any};
-ghost use Rattle.sq_lists.specs.BlockFits.{BlockSuits, CallsSuit, CanGroup, has_own_fault};
+ghost use Rattle.sq_lists.specs.BlockFits.{BlockSuits, CanGroup, has_own_fault};
 ghost use Rattle.sq_lists.specs.Stages.{CanGoOn, is_stage_crowded, sources_with};
 ghost use Rattle.sq_typed.specs.From.{members_of, stages};
 ghost use Rattle.sq_typed.specs.Laws.{last_of};

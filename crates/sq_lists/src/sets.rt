@@ -1,6 +1,5 @@
 //! Lists without repeats, and set operations.
 ghost use Rattle.std.specs.Prelude.{◌≡◌, ◌++◌, ◌∷◌, [], ◌==◌, if◌then◌else◌, IfOk, OnOk};
-ghost use Rattle.std.specs.List.{filter};
 ghost use Rattle.sq_algebra.specs.Listed.{among, first_of_each, without};
 ghost use Rattle.sq_typed.specs.Blocks.{without_repeats};
 ghost use Rattle.sq_typed.specs.Queries.{intersect_rows, set_rows};

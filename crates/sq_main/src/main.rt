@@ -2,8 +2,6 @@
 //! views to standard output.
 #![tactic(auto)]
 
-ghost use Rattle.std.specs.Prelude.{◌≡◌};
-
 use sq_base::{FreeGate, StdSink, StdSource};
 use sq_top::{Status, top};
 use sq_value::{NoMemory, Str};

@@ -1,5 +1,5 @@
 -- An input has at most one program, and none if it has a fault, and at most one fault.
-use Rattle.std.proofs.Common.{◌≡◌, ℕ, ◌<◌, ◌≤◌, List, length, Some, None, refl, sym, ap, ap₂, subst, ◌∙◌, arith}
+use Rattle.std.proofs.Common.{◌≡◌, ℕ, ◌<◌, ◌≤◌, List, length, Option, Some, None, refl, sym, ap, ap₂, subst, ◌∙◌, arith}
 use Rattle.sq_token.specs.declared.token.Token.{Token}
 use Rattle.sq_token.proofs.Outcomes.{list_once, list_or_fault, fault_once}
 use Rattle.sq_ast.specs.declared.statement.Statement.{Statement}
@@ -68,7 +68,7 @@ not_both input p fault s (in_text {text = text} is wrong) =
 
 same_statements_fault : (statements : List Statement) (a b : ProgramFault) → StatementsFault statements a → StatementsFault statements b → a ≡ b
 same_statements_fault statements a b (check {n = n} {kind = k} e) (check {n = m} {kind = l} f) =
-    let same : Some (n, k) ≡ Some (m, l) = sym e ∙ f in
+    let same : ◌≡◌ {A = Option (ℕ × CheckKind)} (Some (n, k)) (Some (m, l)) = sym e ∙ f in
     let pairs : ◌≡◌ {A = ℕ × CheckKind} (n, k) (m, l) = cc in
     ap₂ faults.Check (ap (λ x. x.0) pairs) (ap (λ x. x.1) pairs)
 same_statements_fault statements a b (check e) (range q none typed f) = let fault = e in cc

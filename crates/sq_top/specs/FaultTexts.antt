@@ -38,7 +38,7 @@ kind_text check.TypeMismatch = codes "type mismatch"
 kind_text check.TooWide = codes "too wide"
 kind_text check.Limit = codes "limit"
 
--- want of memory is no fault of a program, and has no line here
+-- running out of memory is no fault of a program, and has no line here
 abbrev pub fault_text : ProgramFault → List ℕ
 fault_text TextTooLong = plain_fault (codes "text too long")
 fault_text NoEnd = plain_fault (codes "no end line")

@@ -88,7 +88,7 @@ pub data HasFault : List ℕ → ProgramFault → Type 0 where
   no_end : {input : List ℕ} → has_end_line (lines_of input) ≡ false → length input ≤ longest_text → HasFault input faults.NoEnd
   in_text : {input text : List ℕ} {fault : ProgramFault} → IsText input text → TextFault text fault → HasFault input fault
 
--- a judgement stopped: at a fault of the text, or for want of memory
+-- a judgement stopped: at a fault of the text, or because memory ran out
 abbrev pub TextStops : List ℕ → JudgeStop → Type 0
 TextStops text (Fault fault) = TextFault text fault
 TextStops text Memory = ⊤

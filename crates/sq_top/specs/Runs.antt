@@ -27,7 +27,7 @@ abbrev pub in_front : List Line → List (List Line) → List (List Line)
 in_front lines [] = lines ∷ []
 in_front lines (tick ∷ ticks) = (lines ++ tick) ∷ ticks
 
--- the ticks that are still to come where these lines are left
+-- the ticks that are still to come if these lines are left
 abbrev pub still : Meant → Run → List Line → List Report
 still p run lines = reports_from p run.tables.items (in_front run.lines.items (ticks_of lines))
 
@@ -35,7 +35,7 @@ still p run lines = reports_from p run.tables.items (in_front run.lines.items (t
 abbrev pub played : Meant → Run → Outcome
 played p run = outcome p run.tables.items run.lines.items
 
--- the ticks that a line brings: one where it is a commit line
+-- the ticks that a line brings: one if it is a commit line
 abbrev pub brought : Meant → Run → Line → List Report
 brought p run line = if is_commit line then (shown p run.tables.items, played p run) ∷ [] else []
 
@@ -53,14 +53,14 @@ pub record IsClosed (p : Meant) (before after : Run) : Type 0 where
   pub tick : after.tick ≡ before.tick + 1
   pub refused : after.refused ≡ (before.refused || is_refusal (played p before))
 
--- What a sink took where the call that was to hand it a text stopped: nothing for want of memory, and a prefix where a
--- write failed, whose count of faults rose.
+-- What a sink took when the call that was to hand it a text stopped: nothing if memory ran out, and a prefix if a write failed,
+-- whose count of faults rose.
 abbrev pub Stopped : Option (List ℕ) → Option (List ℕ) → ℕ → ℕ → List ℕ → Stop → Type 0
 Stopped taken now before after text Memory = Keeps taken now
 Stopped taken now before after text Write = Rose before after × ((n : ℕ) × (n ≤ length text) × Appends taken now (take n text))
 
--- What a sink took where a run stopped: for want of memory the texts of the first k ticks, each whole, and where a write
--- failed, whose count of faults rose, a prefix of all texts.
+-- What a sink took when a run stopped: the texts of the first k ticks, each whole, if memory ran out, and a prefix of all texts
+-- if a write failed, whose count of faults rose.
 abbrev pub StoppedWithin : Meant → Option (List ℕ) → Option (List ℕ) → ℕ → ℕ → List Report → Stop → Type 0
 StoppedWithin p taken now before after reports Memory = (k : ℕ) × Appends taken now (texts_from p 0 (take k reports))
 StoppedWithin p taken now before after reports Write =

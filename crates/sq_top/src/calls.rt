@@ -1,11 +1,6 @@
 //! The program as one call, and the run that it makes.
-ghost use Rattle.std.specs.Prelude.{◌≡◌, ◌≢◌, ◌↔◌, ◌≤◌, ◌^◌, [], IfSome};
-ghost use Rattle.std.specs.Io.KnownBytes.{Appends};
-ghost use Rattle.sq_base.specs.Causes.{Rose};
-ghost use Rattle.sq_typed.specs.Views.{Meant};
-ghost use Rattle.sq_top.specs.Output.{output};
-ghost use Rattle.sq_top.specs.Programs.{IsProgram};
-ghost use Rattle.sq_top.specs.Statuses.{IsFinished, Reads, Judges, Writes, Tells, TellsPrefix};
+ghost use Rattle.std.specs.Prelude.{◌≡◌, ◌≢◌, ◌↔◌, ◌≤◌, ◌^◌, []};
+ghost use Rattle.sq_top.specs.Statuses.{Ran, seen};
 
 use crate::session::run_input;
 use crate::statuses::Status;
@@ -33,16 +28,9 @@ pub fn top<R: Threads + Sync, S: Source, K: Sink, E: Sink, G: Gate>(
     ensures usage { (result ≡ Status.Usage) ↔ (words.now ≢ []) }
     ensures untouched { result ≡ Status.Usage
         → (input.new ≡ input.old) × (out.new ≡ out.old) × (err.new ≡ err.old) }
-    ensures headline { IsFinished result → IfSome (S.left input.old)
-        (λ bytes. (p : Meant) × IsProgram bytes p × Appends (K.taken out.old) (K.taken out.new) (output p bytes)) }
-    ensures input { Reads (2 ^ 40) (S.left input.old) (S.left input.new)
-        (S.faults input.old) (S.faults input.new) result }
-    ensures judged { Judges (S.left input.old) result }
-    ensures output { Writes (S.left input.old) (K.taken out.old) (K.taken out.new)
-        (K.faults out.old) (K.faults out.new) result }
-    ensures told { (Rose (E.faults err.old) (E.faults err.new) → ⊥)
-        → Tells (S.left input.old) (E.taken err.old) (E.taken err.new) result }
-    ensures told_prefix { TellsPrefix (S.left input.old) (E.taken err.old) (E.taken err.new) result }
+    ensures ran { Ran (2 ^ 40) (seen (S.left input.old) (S.faults input.old)) (seen (S.left input.new) (S.faults input.new))
+        (seen (K.taken out.old) (K.faults out.old)) (seen (K.taken out.new) (K.faults out.new))
+        (seen (E.taken err.old) (E.faults err.old)) (seen (E.taken err.new) (E.faults err.new)) result }
 {
     if !words.is_empty() {
         return Status::Usage;
@@ -69,16 +57,9 @@ pub fn serve<R: Threads + Sync, S: Source, K: Sink, E: Sink, G: Gate>(
 ) -> Status
     requires workers { (1 ≤ workers) × (workers ≤ 64) }
     requires limit { limit ≤ 2 ^ 40 }
-    ensures headline { IsFinished result → IfSome (S.left input.old)
-        (λ bytes. (p : Meant) × IsProgram bytes p × Appends (K.taken out.old) (K.taken out.new) (output p bytes)) }
-    ensures input { Reads limit (S.left input.old) (S.left input.new)
-        (S.faults input.old) (S.faults input.new) result }
-    ensures judged { Judges (S.left input.old) result }
-    ensures output { Writes (S.left input.old) (K.taken out.old) (K.taken out.new)
-        (K.faults out.old) (K.faults out.new) result }
-    ensures told { (Rose (E.faults err.old) (E.faults err.new) → ⊥)
-        → Tells (S.left input.old) (E.taken err.old) (E.taken err.new) result }
-    ensures told_prefix { TellsPrefix (S.left input.old) (E.taken err.old) (E.taken err.new) result }
+    ensures ran { Ran limit (seen (S.left input.old) (S.faults input.old)) (seen (S.left input.new) (S.faults input.new))
+        (seen (K.taken out.old) (K.faults out.old)) (seen (K.taken out.new) (K.faults out.new))
+        (seen (E.taken err.old) (E.faults err.old)) (seen (E.taken err.new) (E.faults err.new)) result }
     ensures no_usage { result ≢ Status.Usage }
 {
     run_input(alloc, input, out, limit).tell(err)

@@ -1,5 +1,5 @@
 //! The difference between the rows of a view before a tick and after it.
-ghost use Rattle.std.specs.Prelude.{◌≡◌, ◌≤◌, ◌^◌, ℤ, pos, ◌-ℤ◌, map, length, IfOk};
+ghost use Rattle.std.specs.Prelude.{◌≡◌, ◌≤◌, ◌^◌, pos, ◌-ℤ◌, map, length, IfOk};
 ghost use Rattle.sq_algebra.specs.Listed.{changed};
 ghost use Rattle.sq_algebra.specs.ZSet.{entries, of_list};
 ghost use Rattle.sq_value.specs.Order.{row_cmp};

@@ -1,7 +1,7 @@
 //! The judgement of the program of an input.
 ghost use Rattle.std.specs.Str.{IsUtf8};
 ghost use Rattle.std.specs.List.{AllByRecursion};
-ghost use Rattle.std.specs.Prelude.{◌≡◌, ◌↔◌, IsTrue, ◌<◌, ◌≤◌, ◌^◌, ◌-◌, length, false, IfOk, IfErr, None as Nothing};
+ghost use Rattle.std.specs.Prelude.{◌≡◌, ◌↔◌, IsTrue, ◌<◌, ◌≤◌, ◌-◌, length, false, IfOk, IfErr};
 ghost use Rattle.sq_typed.specs.Checked.{Spelling};
 ghost use Rattle.sq_top.specs.Lines.{lines_of, has_end_line, lines_after_end};
 ghost use Rattle.sq_top.specs.Programs.{HasFault, longest_text, IsProgram, IsProgramText, SpellProgram, Mean, TextStops, Stops, StatementsStop, TokensStop};

@@ -1,9 +1,9 @@
 //! The lines of an input, and where its program text ends.
-ghost use Rattle.std.specs.Prelude.{◌≡◌, ◌<◌, ◌≤◌, ◌∷◌, ◌==◌, [], length, MatchOption, true, false};
+ghost use Rattle.std.specs.Prelude.{◌≡◌, ◌<◌, ◌≤◌, ◌==◌, [], length, MatchOption, true, false};
 ghost use Rattle.std.specs.List.{position};
 ghost use Rattle.sq_top.specs.Lines.{line_feed, lines_of, IsFirstLine, is_end_line as is_end_line_lem, has_end_line, text_before_end, lines_after_end};
 
-/// The first line, without its line feed, and what stands after it; `None` where no byte is left.
+/// The first line, without its line feed, and what stands after it; `None` if no byte is left.
 pub fn next_line(bytes: &[u8]) -> Option<(&[u8], &[u8])>
     ensures { MatchOption result (bytes.now ≡ []) (λ r. IsFirstLine bytes.now r.0.now r.1.now) }
 {
@@ -28,7 +28,7 @@ fn is_end_line(line: &[u8]) -> bool
     line == b"---".as_slice() || line == b"---\r".as_slice()
 }
 
-/// The program text, which ends before the first end line, and the change lines behind that line; `None` where
+/// The program text, which ends before the first end line, and the change lines behind that line; `None` if
 /// there is no end line.
 pub fn split_program(input: &[u8]) -> Option<(&[u8], &[u8])>
     ensures { MatchOption result (has_end_line (lines_of input.now) ≡ false)

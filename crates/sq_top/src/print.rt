@@ -1,8 +1,7 @@
 //! The blocks and refusals of ticks.
-ghost use Rattle.std.specs.Prelude.{◌≡◌, ◌++◌, ◌≤◌, ◌^◌, List, ℕ, IfOk, OnOk, codes, decimal, length};
+ghost use Rattle.std.specs.Prelude.{◌≡◌, ◌++◌, ◌≤◌, ◌^◌, IfOk, OnOk, length};
 ghost use Rattle.std.specs.List.{flat_map};
 ghost use Rattle.sq_algebra.specs.ZSet.{entries};
-ghost use Rattle.sq_typed.specs.Views.{Meant};
 ghost use Rattle.sq_top.specs.Texts.{change_text, views_text, view_text, rise_text, change_line_text, front_text, accepted_text, refused_line_text, refusal_text as refusal_text_lem, tick_text as tick_text_lem};
 ghost use Rattle.sq_top.specs.Outcomes.{outcome_of, Shows};
 
@@ -84,7 +83,7 @@ fn push_views(
     Ok(())
 }
 
-// Appends the change of a relation, where it is a view that is printed.
+// Appends the change of a relation, if it is a view that is printed.
 fn push_view(
     alloc: Global,
     out: &mut Vec<u8>,
@@ -119,7 +118,7 @@ fn push_changes(
     Ok(())
 }
 
-// Appends the line of a row whose count rises by `weight`, which is below 0 where it falls.
+// Appends the line of a row whose count rises by `weight`, which is below 0 if it falls.
 fn push_rise(
     alloc: Global,
     out: &mut Vec<u8>,

@@ -52,7 +52,7 @@ pub fn view_name(alloc: Global, catalog: &Catalog, view: u32) -> Result<Str, NoM
     Str::of(alloc, "")
 }
 
-/// The rows of a list by its number, and none where there is no such list.
+/// The rows of a list by its number, and none if there is no such list.
 pub fn rows_in(lists: &[Items<Row>], number: usize) -> &[Row]
     ensures { result.now ≡ rows_in_lem lists.now number }
 {

@@ -1,5 +1,5 @@
 //! The ticks of an input, one after the other.
-ghost use Rattle.std.specs.Prelude.{◌≡◌, ◌+◌, ◌≤◌, ◌<◌, ◌^◌, ◌++◌, ◌∷◌, ◌||◌, [], ℕ, List, length, IfOk, IfErr, OnOk, true};
+ghost use Rattle.std.specs.Prelude.{◌≡◌, ◌+◌, ◌≤◌, ◌<◌, ◌^◌, ◌++◌, ◌∷◌, ◌||◌, [], List, length, IfOk, IfErr, OnOk, true};
 ghost use Rattle.std.specs.List.{list_any, list_all};
 ghost use Rattle.std.specs.Io.KnownBytes.{Appends};
 ghost use Rattle.sq_lines.specs.Lines.{is_blank};
@@ -179,7 +179,7 @@ impl Run {
         }
     }
 
-    /// Prints that the last tick is unfinished, where a line of it is not blank. Answers whether a tick was refused.
+    /// Prints that the last tick is unfinished, if a line of it is not blank. Answers whether a tick was refused.
     pub fn finish<K: Sink>(
         &self,
         alloc: Global,
