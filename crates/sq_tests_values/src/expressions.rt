@@ -510,7 +510,6 @@ fn sums_are_the_same_term_by_term(rt: HostRuntime) -> Result<(), Fail> {
 }
 
 #[test]
-#[tactic(auto, using(sq_expr::proofs::ShiftSteps::room_of_column, sq_expr::proofs::ShiftSteps::room_of_null))]
 fn shifted_columns_stand_further_on(rt: HostRuntime) -> Result<(), Fail> {
     let alloc = rt.alloc();
     let column = Expr::Column(1);
@@ -521,7 +520,6 @@ fn shifted_columns_stand_further_on(rt: HostRuntime) -> Result<(), Fail> {
 }
 
 #[test]
-#[tactic(auto, using(sq_expr::proofs::ShiftSteps::room_of_column, sq_expr::proofs::ShiftSteps::room_of_null))]
 fn shifted_conditions_test_further_on(rt: HostRuntime) -> Result<(), Fail> {
     let alloc = rt.alloc();
     let cond = Cond::Null {
