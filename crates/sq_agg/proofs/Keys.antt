@@ -1,32 +1,28 @@
 -- The rows of a group.
-use Rattle.std.proofs.Common.{◌≡◌, ℕ, ◌+◌, ◌^◌, ◌≤◌, List, [], ◌∷◌, ◌++◌, map, Bool, true, false, cond, not, filter, take, ℤ, pos, Some, None, refl, sym, ap, subst, ◌∙◌, is_eq, unsigned_abs, arith}
-use Rattle.std.specs.Prelude.{slice_get, ◌≤ℤ◌}
+use Rattle.std.proofs.Common.{◌≡◌, ◌+◌, ◌^◌, ◌≤◌, List, [], ◌∷◌, Bool, true, false, cond, not, filter, ℤ, pos, Some, None, refl, sym, ap, subst, ◌∙◌, is_eq, unsigned_abs, arith}
+use Rattle.std.specs.Prelude.{◌≤ℤ◌}
 use Rattle.std.specs.List.{All, AllByRecursion}
 use Rattle.std.proofs.lemmas.List.Elements.{All-from_recursion, recursion_from_All}
 use borrow.Author.Differences.{ints}
 use Rattle.sq_algebra.specs.Operators.{IsNonNegative}
 use Rattle.sq_algebra.proofs.NonNegativeLemmas.{nonnegative-keep, total-keep-le}
 use Rattle.sq_ops.specs.Fits.{FitsRow, FitsRows}
-use Rattle.std.proofs.lemmas.List.{map-append}
 use Rattle.std.proofs.lemmas.List.Sums.{sum_by-cons}
 use Rattle.sq_value.specs.declared.value.Value.{Value}
 use Rattle.sq_value.specs.Order.{row_cmp}
 use Rattle.sq_value.specs.OrderLaws.{row_cmp-total, row_cmp-antisymmetric}
-use Rattle.sq_algebra.specs.Keyed.{at_key, keys_of}
-use Rattle.sq_algebra.specs.Listed.{count, in_order}
+use Rattle.sq_algebra.specs.Keyed.{at_key}
 use Rattle.sq_algebra.specs.Operators.{keep}
-use Rattle.sq_algebra.specs.ZSet.{ZSet, entries, from_pairs, keys, of_list, total}
+use Rattle.sq_algebra.specs.ZSet.{ZSet, entries, from_pairs, total}
 use Rattle.sq_algebra.proofs.EntryLemmas.{entries-at_key}
-use Rattle.sq_algebra.proofs.MemberLemmas.{entries-of_list}
 use Rattle.sq_zset.specs.declared.pair.Pair.{Pair}
 use Rattle.sq_zset.specs.Collecting.{mass_of}
 use Rattle.sq_zset.specs.Pairs.{mass, weighted_rows}
 use Rattle.sq_zset.specs.Range.{first_outside, first_outside_in, IsInRange}
 use Rattle.sq_zset.proofs.Entries.{none_first}
 use Rattle.sq_ops.specs.declared.aggregate.AggSpec.{AggSpec}
-use Rattle.sq_ops.specs.Aggregates.{SuitsSpec, group_of, groups_of, rows_of_group}
+use Rattle.sq_ops.specs.Aggregates.{SuitsSpec, group_of, rows_of_group}
 use Rattle.sq_ops.specs.Measures.{IsMeasurable}
-use Rattle.sq_ops.proofs.Lists.{take_more}
 
 -- ---- the rows of a group
 pub group_rows : (spec : AggSpec) (key : List Value) (z : ZSet (List Value) row_cmp) → from_pairs row_cmp (filter (λ e. is_eq (row_cmp key (group_of spec e.0))) (entries z)) ≡ rows_of_group spec z key

@@ -1,5 +1,5 @@
 -- The map from the keys of the groups to the places of their rows, row after row.
-use Rattle.std.proofs.Common.{◌≡◌, ℕ, ◌+◌, ◌<◌, ◌≤◌, List, [], ◌∷◌, ◌++◌, map, Bool, true, false, cond, take, length, ℤ, pos, Some, None, IsSome, refl, sym, ap, ap₂, subst, ◌∙◌, Less, Equal, Greater, is_eq, take_all, arith}
+use Rattle.std.proofs.Common.{◌≡◌, ℕ, ◌+◌, ◌<◌, ◌≤◌, List, [], ◌∷◌, ◌++◌, map, Bool, true, false, cond, take, length, ℤ, pos, Some, IsSome, refl, sym, ap, ap₂, subst, ◌∙◌, Less, Equal, Greater, is_eq, take_all, arith}
 use Rattle.std.specs.Prelude.{slice_get}
 use Rattle.std.specs.BTreeMap as tree
 use Rattle.std.specs.BTreeMap.{BTreeMap, insert_entry, is_at}
@@ -22,7 +22,6 @@ use Rattle.sq_algebra.proofs.Lists.{count-append}
 use Rattle.sq_algebra.proofs.MemberLemmas.{entries-of_list}
 use Rattle.sq_algebra.proofs.Weights.{same_weights, weight-of_list}
 use Rattle.sq_ops.specs.declared.aggregate.AggSpec.{AggSpec}
-use Rattle.sq_ops.specs.declared.index.Index.{Index}
 use Rattle.sq_ops.specs.Aggregates.{group_of, groups_of}
 use Rattle.sq_ops.specs.Indexes.{entries_at, with_key}
 use Rattle.sq_ops.specs.Joins.{columns_of}

@@ -1,10 +1,10 @@
 -- All keys of a sum, a difference, a part or an image pass a test, if all keys of its parts do.
-use Rattle.std.proofs.Common.{◌≡◌, List, [], ◌∷◌, ◌++◌, map, Bool, true, false, ◌&&◌, cond, T, ℤ, pos, ◌+ℤ◌, neg_ℤ, Ordering, Less, Equal, Greater, refl, sym, ap, subst, ◌∙◌}
+use Rattle.std.proofs.Common.{◌≡◌, List, [], ◌∷◌, ◌++◌, Bool, true, false, ◌&&◌, cond, T, ℤ, pos, ◌+ℤ◌, Ordering, Less, Equal, Greater, refl, sym, ap, subst, ◌∙◌}
 use Rattle.std.specs.Cmp.{IsTotalOrder}
 use Rattle.std.specs.FinMap.{IsAntisymmetric}
 use Rattle.std.specs.List.{filter, flat_map, list_all}
 use Rattle.std.specs.Ordering.{int_eq, is_eq, match_ordering}
-use Rattle.std.proofs.lemmas.List.Folds.{list_all-append, list_all-map}
+use Rattle.std.proofs.lemmas.List.Folds.{list_all-map}
 use Rattle.sq_algebra.specs.Keyed.{at_key}
 use Rattle.sq_algebra.specs.Listed.{count, in_order, place}
 use Rattle.sq_algebra.specs.Operators.{image, keep, weighing}

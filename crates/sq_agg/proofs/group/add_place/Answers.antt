@@ -1,4 +1,4 @@
-use Rattle.std.proofs.Common.{rules, ◌≡◌, ◌++◌, ◌∷◌, [], cond, is_eq, IsSome, ap, ◌∙◌}
+use Rattle.std.proofs.Common.{rules, ◌++◌, ◌∷◌, [], cond, is_eq, IsSome, ap, ◌∙◌}
 use Rattle.std.specs.BTreeMap.{get, keys}
 use Rattle.std.specs.Map.{keys_of}
 use Rattle.sq_value.specs.Order.{row_cmp}

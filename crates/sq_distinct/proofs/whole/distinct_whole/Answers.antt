@@ -1,4 +1,4 @@
-use Rattle.std.proofs.Common.{◌≡◌, ◌∙◌, ap}
+use Rattle.std.proofs.Common.{◌∙◌, ap}
 use Rattle.sq_algebra.specs.ZSet.{of_list}
 use Rattle.sq_value.specs.Order.{row_cmp}
 use Rattle.sq_distinct.proofs.Above.{counted_above}

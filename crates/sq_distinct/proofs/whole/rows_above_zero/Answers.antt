@@ -1,4 +1,4 @@
-use Rattle.std.proofs.Common.{◌≡◌, ◌∙◌, ◌++◌, ◌∷◌, [], ap, sym, cond, pos}
+use Rattle.std.proofs.Common.{◌∙◌, ◌++◌, ◌∷◌, [], ap, sym, cond, pos}
 use Rattle.std.specs.Prelude.{int_lt}
 use Rattle.sq_algebra.specs.ZSet.{entries}
 use Rattle.sq_zset.proofs.Entries.{kept}
