@@ -5,7 +5,6 @@ use Rattle.sq_algebra.specs.ZSet.{entries}
 use Rattle.sq_expr.proofs.Lists.{all_append}
 use Rattle.sq_ops.proofs.Lists.{take_more}
 use Rattle.sq_value.specs.declared.value.Value.{Value}
-use Rattle.sq_zset.proofs.Entries.{kept}
 use Rattle.sq_tests_operators.proofs.rows.has_no_weight_below_zero.Goals as goal
 
 pub loop-i-preserved : goal.loop-i-preserved
