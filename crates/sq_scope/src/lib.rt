@@ -28,3 +28,26 @@ pub use repeating::repeats;
 pub use scope::{Columns, Scope, Source};
 pub use sources_row::Row;
 pub use stars::each_star_once;
+
+fn is_send_and_sync<T: Send + Sync>() {}
+
+// Each type of data may be handed to another thread, and be shared.
+fn data_crosses_threads() {
+    is_send_and_sync::<Found>();
+    is_send_and_sync::<Groups>();
+    is_send_and_sync::<Keys>();
+}
+
+fn items_cross_threads<'a>() {
+    is_send_and_sync::<ListItem<'a>>();
+}
+
+fn sources_cross_threads<'a>() {
+    is_send_and_sync::<Columns<'a>>();
+    is_send_and_sync::<Source<'a>>();
+}
+
+fn scopes_cross_threads<'a>() {
+    is_send_and_sync::<Scope<'a>>();
+    is_send_and_sync::<Row<'a>>();
+}
