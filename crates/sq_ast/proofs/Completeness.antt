@@ -180,12 +180,12 @@ module _ (inner : Inner) (d : ℕ) (whole : Whole inner d) where
   unfolding r.after_operand comparison_of r.null_test sees after
   is_not_null_reads = record { read = refl }
 
-  operand_then : {ts mid rest : Tokens} {e : ExprTree} {c : CondTree} → Reads (r.sum inner) ts e mid → Reads (r.after_operand inner e) mid c rest → Reads (r.test inner) ts c rest
-  unfolding r.test
+  operand_then : {ts mid rest : Tokens} {e : ExprTree} {c : CondTree} → Reads (r.sum inner) ts e mid → Reads (r.after_operand inner e) mid c rest → Reads (r.one_test inner) ts c rest
+  unfolding r.one_test
   operand_then {ts} g h = record { read = ap (λ o. r.test_by inner o ts) g.read ∙ h.read }
 
-  no_operand_then : {ts rest : Tokens} {c : CondTree} → Refuses (r.sum inner) ts → Reads (r.nested_cond inner) ts c rest → Reads (r.test inner) ts c rest
-  unfolding r.test
+  no_operand_then : {ts rest : Tokens} {c : CondTree} → Refuses (r.sum inner) ts → Reads (r.nested_cond inner) ts c rest → Reads (r.one_test inner) ts c rest
+  unfolding r.one_test
   no_operand_then {ts} g h = record { read = ap (λ o. r.test_by inner o ts) g.refused ∙ h.read }
 
   -- what is no expression in parentheses is none behind an opening parenthesis
@@ -197,7 +197,7 @@ module _ (inner : Inner) (d : ℕ) (whole : Whole inner d) where
   unfolding r.nested_cond
   nested_cond_reads g le = r_expect w.LEFT_PAREN tt (r_nested (whole.cond _ _ _ g le (stop tt)))
 
-  test_reads : {ts rest : Tokens} {c : CondTree} → SpellsTest ts c rest → length ts ≤ d → Stops 3 rest → Reads (r.test inner) ts c rest
+  test_reads : {ts rest : Tokens} {c : CondTree} → SpellsTest ts c rest → length ts ≤ d → Stops 3 rest → Reads (r.one_test inner) ts c rest
   test_reads (s.compare g c k) le h =
       operand_then (sum_reads g le (comparison_stops c)) (compare_reads c (sum_reads k (behind (past (Taken.expr_taken g) le)) h))
   test_reads (s.is_null g) le h = operand_then (sum_reads g le (stop tt)) is_null_reads

@@ -10,7 +10,7 @@ use Rattle.sq_ast.proofs.Programs.{program_sound, unspelled}
 
 -- what a reading computes with
 rules : Unit {0}
-unfolding w.is_reserved w.same_symbol trees.sum_of trees.product_of trees.any_of trees.all_of trees.chain_of trees.intersect_of p.sees p.after p.many_for p.many r.name_of r.function_of r.comparison_of r.type_of r.name r.alias r.maybe_alias r.col_ref r.count_all r.argument r.prim r.sign r.next_factor r.product r.next_term r.sum r.null_test r.after_operand r.nested_cond r.test r.neg r.next_and r.conj r.next_or r.disj r.set_op r.select r.star_of r.next_col_ref r.group_by r.computed_item r.select_item r.next_item r.from_item r.next_joined r.block r.operand r.next_operand r.intersection r.next_step r.query_chain r.level r.nullness r.column_def r.next_column_def r.table r.flavour r.view r.create r.statement r.is_shallow_from r.is_shallow r.pieces r.place r.places r.program
+unfolding w.is_reserved w.same_symbol trees.sum_of trees.product_of trees.any_of trees.all_of trees.chain_of trees.intersect_of p.sees p.after p.many_for p.many r.name_of r.function_of r.comparison_of r.type_of r.name r.alias r.maybe_alias r.col_ref r.count_all r.argument r.prim r.sign r.next_factor r.product r.next_term r.sum r.null_test r.after_operand r.nested_cond r.one_test r.neg r.next_and r.conj r.next_or r.disj r.set_op r.select r.star_of r.next_col_ref r.group_by r.computed_item r.select_item r.next_item r.from_item r.next_joined r.block r.operand r.next_operand r.intersection r.next_step r.query_chain r.level r.nullness r.column_def r.next_column_def r.table r.flavour r.view r.create r.statement r.is_shallow_from r.is_shallow r.pieces r.place r.places r.program
 rules = tt
 
 pub nothing_spelled : e.IsSpelled e.nothing

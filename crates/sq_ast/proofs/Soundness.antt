@@ -184,8 +184,8 @@ module _ (inner : Inner) (sound : Sound inner) where
   test_at ts None c rest was h = nested_cond_sound.run ts c rest h
   test_at ts (Some (left, mid)) c rest was h = operand_at left mid c rest h ts (sum_sound.run ts left mid was)
 
-  test_sound : Yields SpellsTest (r.test inner)
-  unfolding r.test
+  test_sound : Yields SpellsTest (r.one_test inner)
+  unfolding r.one_test
   test_sound = record { run = λ ts c rest h. test_at ts (r.sum inner ts) c rest refl h }
 
   neg_sound : Yields SpellsNeg (r.neg inner)

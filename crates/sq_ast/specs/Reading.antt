@@ -196,13 +196,13 @@ module _ (inner : Inner) where
   test_by None = nested_cond
   test_by (Some p) = λ _. after_operand p.0 p.1
 
-  unfoldable pub test : Parser CondTree
-  test = λ ts. test_by (sum ts) ts
+  unfoldable pub one_test : Parser CondTree
+  one_test = λ ts. test_by (sum ts) ts
 
   unfoldable pub neg : Parser CondTree
   neg = do
     negated ← eat w.NOT
-    if negated then cond.Not <$> test else test
+    if negated then cond.Not <$> one_test else one_test
 
   unfoldable pub next_and : Parser (Option CondTree)
   next_and = clause w.AND neg

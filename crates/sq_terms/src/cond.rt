@@ -175,9 +175,9 @@ fn nested_cond<'a>(alloc: Global, depth: usize, tokens: &'a [Token]) -> Parsed<'
 ///
 /// A parenthesis may open an operand or a condition, and what it holds tells which.
 #[cycle(cond)]
-#[tactic(auto, unfolding(sq_ast::specs::Reading::test))]
+#[tactic(auto, unfolding(sq_ast::specs::Reading::one_test))]
 fn test<'a>(alloc: Global, depth: usize, tokens: &'a [Token]) -> Parsed<'a, CondTree>
-    ensures { Reads result (r.test (r.level depth) (kinds tokens.now)) }
+    ensures { Reads result (r.one_test (r.level depth) (kinds tokens.now)) }
 {
     if opens_condition(tokens) {
         return nested_cond(alloc, depth, tokens);
