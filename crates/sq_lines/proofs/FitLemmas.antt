@@ -18,7 +18,8 @@ use Rattle.sq_lines.specs.declared.line.Line.TheVariants as line
 use Rattle.sq_lines.specs.declared.line.Why.{Why}
 use Rattle.sq_value.specs.declared.value.Value.TheVariants.{Text}
 use Rattle.sq_lines.specs.Cells.{is_null, holds_nothing, is_number, is_unlike, is_in_range, number_outside, number_cell, value_of, cell, has_wrong_type, is_out_of_range, is_missing}
-use Rattle.sq_lines.specs.Tables.{Numbered, tables_of, table_named, table_meant}
+use Rattle.sq_catalog.specs.Sorts.{tables_of}
+use Rattle.sq_lines.specs.Tables.{Numbered, table_named, table_meant}
 use Rattle.sq_lines.specs.Lines.{decoded, json_line, json_of, object_line, asks_commit, table_line, operation_line, row_line, cells_line, is_blank_byte, longest_line}
 use Rattle.sq_lines.specs.Fit.{UpdateFits, LineFits}
 

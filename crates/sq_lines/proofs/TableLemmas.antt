@@ -5,7 +5,8 @@ use Rattle.std.proofs.lemmas.Option.{slice_get_within, get_or_from_slice_get}
 use Rattle.std.specs.Prelude.{slice_get}
 use Rattle.std.specs.List.{enumerate_from, find}
 use Rattle.sq_catalog.specs.declared.relation.Relation.{Relation}
-use Rattle.sq_lines.specs.Tables.{Numbered, is_table, tables_of}
+use Rattle.sq_catalog.specs.Sorts.{is_table, tables_of}
+use Rattle.sq_lines.specs.Tables.{Numbered}
 
 -- the table with this name among relations whose tables are counted from k
 abbrev pub ahead : List ℕ → ℕ → List Relation → Option Numbered

@@ -6,7 +6,7 @@ use Rattle.sq_typed.specs.Fit.{kinds_of}
 use Rattle.sq_typed.specs.declared.update.Update.{Update}
 use Rattle.sq_lines.specs.declared.line.Line.{Line}
 use Rattle.sq_lines.specs.declared.line.Line.TheVariants as line
-use Rattle.sq_lines.specs.Tables.{tables_of}
+use Rattle.sq_catalog.specs.Sorts.{tables_of}
 
 -- it has the line's number, its table is one of the tables, and its row is of the kinds of that table's columns
 pub record UpdateFits (relations : List Relation) (n : ℕ) (u : Update) : Type 0 where

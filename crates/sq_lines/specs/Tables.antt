@@ -1,18 +1,9 @@
 -- The tables among the relations of a program, by name and by number.
-use Rattle.std.specs.Prelude.{ℕ, Bool, true, false, List, filter, bytes_eq, Option, None, Some}
+use Rattle.std.specs.Prelude.{ℕ, List, bytes_eq, Option, None, Some}
 use Rattle.std.specs.List.{enumerate_from, find}
 use Rattle.sq_catalog.specs.declared.relation.Relation.{Relation}
-use Rattle.sq_catalog.specs.declared.relation.RelationKind.{RelationKind}
-use Rattle.sq_catalog.specs.declared.relation.RelationKind.TheVariants.{Table, View}
+use Rattle.sq_catalog.specs.Sorts.{tables_of}
 use Rattle.serde_json.specs.Data.{Data, string}
-
-abbrev pub is_table : RelationKind → Bool
-is_table Table = true
-is_table (View printed) = false
-
--- the tables in order of creation, without the views
-abbrev pub tables_of : List Relation → List Relation
-tables_of relations = filter (λ r. is_table r.kind) relations
 
 -- a table with its number among the tables, which counts from 0
 abbrev pub Numbered : Type 0

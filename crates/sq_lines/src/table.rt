@@ -1,10 +1,10 @@
 //! The table that a change line names.
 ghost use Rattle.std.specs.Prelude.{◌≡◌, option_map};
 ghost use Rattle.serde_json.specs.View.{view};
-ghost use Rattle.sq_lines.specs.Tables.{is_table as is_table_lem, table_named as table_named_lem, table_meant as table_meant_lem};
+ghost use Rattle.sq_lines.specs.Tables.{table_named as table_named_lem, table_meant as table_meant_lem};
 
 use serde_json::Value as Json;
-use sq_catalog::{Catalog, Relation, RelationKind};
+use sq_catalog::{Catalog, Relation};
 
 // The table that the value names, if it is a text, and its number among the tables.
 pub(crate) fn table_meant<'a>(
@@ -25,7 +25,7 @@ fn table_named<'a>(catalog: &'a Catalog, name: &str) -> Option<(u32, &'a Relatio
     let mut number = 0;
     for i in 0..catalog.len() {
         let relation = catalog.at(i);
-        if is_table(relation.kind) {
+        if relation.kind.is_table() {
             if name == relation.name.as_str() {
                 return Some((number, relation));
             }
@@ -33,13 +33,4 @@ fn table_named<'a>(catalog: &'a Catalog, name: &str) -> Option<(u32, &'a Relatio
         }
     }
     None
-}
-
-fn is_table(kind: RelationKind) -> bool
-    ensures { result ≡ is_table_lem kind }
-{
-    match kind {
-        RelationKind::Table => true,
-        RelationKind::View { .. } => false,
-    }
 }

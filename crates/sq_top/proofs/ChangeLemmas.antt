@@ -14,24 +14,14 @@ use Rattle.sq_value.specs.Order.{row_cmp}
 use Rattle.sq_value.specs.OrderLaws.{row_cmp-total, row_cmp-antisymmetric}
 use Rattle.sq_value.specs.Count.{count}
 use Rattle.sq_algebra.specs.Listed.{changed}
-use Rattle.sq_algebra.specs.ZSet.{ZSet, entries, from_pairs, of_list, minus, weight_in}
+use Rattle.sq_algebra.specs.ZSet.{ZSet, entries, of_list, minus, weight_in}
 use Rattle.sq_algebra.proofs.Changes.{entries_change}
 use Rattle.sq_algebra.proofs.Weights.{weight-entries, weight-of_list, weight-minus, same_weights}
 use Rattle.sq_zset.specs.Range.{is_in_range, first_outside_in, first_outside}
 use Rattle.sq_catalog.specs.declared.relation.Relation.{Relation}
 use Rattle.sq_typed.specs.From.{Row}
-use Rattle.sq_top.specs.Relations.{is_printed}
+use Rattle.sq_catalog.specs.Sorts.{is_printed}
 use Rattle.sq_top.specs.Texts.{rise, changes, rise_text, view_text}
-
--- a list counted is its difference from no rows
-of_list_from_none : (rows : List Row) → of_list row_cmp rows ≡ minus (of_list row_cmp rows) (of_list row_cmp [])
-of_list_from_none rows = same_weights row_cmp row_cmp-total row_cmp-antisymmetric _ _ (λ r.
-    sym (weight-minus row_cmp row_cmp-total r (of_list row_cmp rows) (of_list row_cmp [])
-    ∙ ap₂ ◌-ℤ◌ (weight-of_list row_cmp row_cmp-total r rows) (weight-of_list row_cmp row_cmp-total r [])
-    ∙ less_none (count r rows)
-    ∙ sym (weight-of_list row_cmp row_cmp-total r rows))) where
-      less_none : (n : ℕ) → pos n -ℤ pos 0 ≡ pos n
-      less_none n = omega (arith, ints)
 
 abs_difference : (a b n : ℕ) → a ≤ n → b ≤ n → unsigned_abs (pos a -ℤ pos b) ≤ n
 abs_difference a b n ha hb = omega (arith, ints)
@@ -53,9 +43,6 @@ change_in_range before now few_before few_now =
     (omega (arith, few_now, count_by-le-length (λ s. is_eq (row_cmp r s)) now)) (omega (arith, few_before, count_by-le-length (λ s. is_eq (row_cmp r s)) before)))
     (changed row_cmp before now)
 
-pub rows_in_range : (rows : List Row) → length rows ≤ 2 ^ 62 → first_outside (of_list row_cmp rows) ≡ None
-rows_in_range rows few = ap first_outside (of_list_from_none rows) ∙ change_in_range [] rows (omega arith) few
-
 -- the text of one more entry
 pub text_more : (f : Row × ℤ → List ℕ) (es : List (Row × ℤ)) (i : ℕ) (e : Row × ℤ) → slice_get es i ≡ Some e
     → flat_map f (take i es) ++ f e ≡ flat_map f (take (i + 1) es)
@@ -70,17 +57,6 @@ told_rise row before now =
     ∙ sym (weight-entries row_cmp row (minus (of_list row_cmp now) (of_list row_cmp before)))
     ∙ weight-minus row_cmp row_cmp-total row (of_list row_cmp now) (of_list row_cmp before)
     ∙ ap₂ ◌-ℤ◌ (weight-of_list row_cmp row_cmp-total row now) (weight-of_list row_cmp row_cmp-total row before)
-
--- pairs of weight 1 add up to the counts of their rows
-pub counted : (pairs : List (Row × ℤ)) (rows : List Row) → pairs ≡ map (λ r. (r, pos 1)) rows → from_pairs row_cmp pairs ≡ of_list row_cmp rows
-unfolding of_list
-counted pairs rows e = ap (from_pairs row_cmp) e
-
--- so no weight of theirs lies outside the range
-pub counted_in_range : (pairs : List (Row × ℤ)) (rows : List Row) (sum : ℤ) → pairs ≡ map (λ r. (r, pos 1)) rows → length rows ≤ 2 ^ 62
-    → first_outside (from_pairs row_cmp pairs) ≡ Some sum → ⊥
-counted_in_range pairs rows sum e few outside =
-    let none : first_outside (from_pairs row_cmp pairs) ≡ None = ap first_outside (counted pairs rows e) ∙ rows_in_range rows few in cc
 
 pub changed_in_range : (old new : ZSet Row row_cmp) (before now : List Row) (sum : ℤ) → old ≡ of_list row_cmp before → new ≡ of_list row_cmp now
     → length before ≤ 2 ^ 62 → length now ≤ 2 ^ 62 → first_outside (minus new old) ≡ Some sum → ⊥

@@ -4,11 +4,10 @@ use Rattle.std.specs.Prelude.{slice_get}
 use Rattle.std.specs.List.{flat_map, enumerate_from}
 use Rattle.std.proofs.lemmas.Option.{same_Some, slice_get_read}
 use Rattle.sq_catalog.specs.declared.relation.Relation.{Relation}
-use Rattle.sq_catalog.specs.declared.relation.RelationKind.{RelationKind}
-use Rattle.sq_catalog.specs.declared.relation.RelationKind.TheVariants.{Table, View}
 use Rattle.sq_typed.specs.From.{Row}
 use Rattle.sq_typed.specs.Laws.{rows_in}
-use Rattle.sq_top.specs.Relations.{empty_tables, is_view, name_of, view_name, views_of}
+use Rattle.sq_catalog.specs.Sorts.{is_table, is_view, views_of}
+use Rattle.sq_top.specs.Relations.{empty_tables, name_of, view_name}
 use Rattle.sq_typed.specs.Tables.{Tables}
 use Rattle.sq_top.specs.Texts.{view_text}
 
@@ -25,19 +24,11 @@ drop_at xs i x e = let next : suc i ≡ i + 1 = omega arith in subst (λ n. drop
 pub drop_read : {X : Type 0} (xs : List X) (i : ℕ) (x : X) → i < length xs → x ≡ get_or xs i x → drop i xs ≡ x ∷ drop (i + 1) xs
 drop_read xs i x lt at = drop_at xs i x (slice_get_read xs (length xs) i x refl lt at)
 
-table_is_first : (r : Relation) (rs : List Relation) (k : RelationKind) → r.kind ≡ k → is_view k ≡ false → empty_tables (r ∷ rs) ≡ [] ∷ empty_tables rs
-table_is_first r rs Table e is = rw e refl
-table_is_first r rs (View printed) e is = absurd (cc)
+pub table_in_front : (r : Relation) (rs : List Relation) → is_table r.kind ≡ true → empty_tables (r ∷ rs) ≡ [] ∷ empty_tables rs
+table_in_front r rs is = rw is refl
 
-view_is_no_table : (r : Relation) (rs : List Relation) (k : RelationKind) → r.kind ≡ k → is_view k ≡ true → empty_tables (r ∷ rs) ≡ empty_tables rs
-view_is_no_table r rs Table e is = absurd (cc)
-view_is_no_table r rs (View printed) e is = rw e refl
-
-pub table_in_front : (r : Relation) (rs : List Relation) → is_view r.kind ≡ false → empty_tables (r ∷ rs) ≡ [] ∷ empty_tables rs
-table_in_front r rs is = table_is_first r rs r.kind refl is
-
-pub view_before_tables : (r : Relation) (rs : List Relation) → is_view r.kind ≡ true → empty_tables (r ∷ rs) ≡ empty_tables rs
-view_before_tables r rs is = view_is_no_table r rs r.kind refl is
+pub view_before_tables : (r : Relation) (rs : List Relation) → is_table r.kind ≡ false → empty_tables (r ∷ rs) ≡ empty_tables rs
+view_before_tables r rs is = rw is refl
 
 pub view_in_front : (r : Relation) (rs : List Relation) → is_view r.kind ≡ true → views_of (r ∷ rs) ≡ r ∷ views_of rs
 view_in_front r rs is = rw is refl
@@ -115,13 +106,13 @@ name_skipped relations i left now view r inv at is same =
 -- ---- empty tables
 
 pub tables_passed : (relations : List Relation) (i : ℕ) (r : Relation) (out next : Tables) → out ++ empty_tables (drop i relations) ≡ empty_tables relations
-    → slice_get relations i ≡ Some r → is_view r.kind ≡ false → next ≡ out ++ [] ∷ [] → next ++ empty_tables (drop (i + 1) relations) ≡ empty_tables relations
+    → slice_get relations i ≡ Some r → is_table r.kind ≡ true → next ≡ out ++ [] ∷ [] → next ++ empty_tables (drop (i + 1) relations) ≡ empty_tables relations
 tables_passed relations i r out next inv at is e =
     ap (λ t. t ++ empty_tables (drop (i + 1) relations)) e ∙ append_assoc out ([] ∷ []) (empty_tables (drop (i + 1) relations))
     ∙ ap (λ t. out ++ t) (sym (table_in_front r (drop (i + 1) relations) is)) ∙ ap (λ rs. out ++ empty_tables rs) (sym (drop_at relations i r at)) ∙ inv
 
 pub tables_skipped : (relations : List Relation) (i : ℕ) (r : Relation) (out next : Tables) → out ++ empty_tables (drop i relations) ≡ empty_tables relations
-    → slice_get relations i ≡ Some r → is_view r.kind ≡ true → next ≡ out → next ++ empty_tables (drop (i + 1) relations) ≡ empty_tables relations
+    → slice_get relations i ≡ Some r → is_table r.kind ≡ false → next ≡ out → next ++ empty_tables (drop (i + 1) relations) ≡ empty_tables relations
 tables_skipped relations i r out next inv at is e =
     ap (λ t. t ++ empty_tables (drop (i + 1) relations)) e
     ∙ ap (λ t. out ++ t) (sym (view_before_tables r (drop (i + 1) relations) is)) ∙ ap (λ rs. out ++ empty_tables rs) (sym (drop_at relations i r at)) ∙ inv

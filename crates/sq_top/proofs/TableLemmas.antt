@@ -11,7 +11,7 @@ use Rattle.sq_catalog.specs.declared.relation.RelationKind.TheVariants.{Table, V
 use Rattle.sq_expr.specs.Kinds.{AreOfKinds}
 use Rattle.sq_expr.proofs.Lists.{all_append}
 use Rattle.sq_lines.specs.Lines.{decoded}
-use Rattle.sq_lines.specs.Tables.{is_table, tables_of}
+use Rattle.sq_catalog.specs.Sorts.{is_table, tables_of}
 use Rattle.sq_lines.specs.declared.line.Line.{Line}
 use Rattle.sq_lines.specs.declared.line.Line.TheVariants as line
 use Rattle.sq_lines.proofs.FitLemmas.{update_fits, bad_number}

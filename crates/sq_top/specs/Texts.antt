@@ -4,6 +4,7 @@ use Rattle.std.specs.Fmt.{signed_decimal}
 use Rattle.std.specs.List.{flat_map, enumerate_from, zip}
 use Rattle.json.specs.Print.{quoted}
 use Rattle.sq_algebra.specs.Listed.{changed}
+use Rattle.sq_catalog.specs.Sorts.{is_printed, views_of}
 use Rattle.sq_catalog.specs.declared.relation.Column.{Column}
 use Rattle.sq_catalog.specs.declared.relation.Relation.{Relation}
 use Rattle.sq_value.specs.declared.value.Value.{Value}
@@ -14,7 +15,6 @@ use Rattle.sq_lists.specs.Shown.{shown}
 use Rattle.sq_typed.specs.From.{Row}
 use Rattle.sq_typed.specs.Laws.{rows_in}
 use Rattle.sq_typed.specs.Views.{Meant}
-use Rattle.sq_top.specs.Relations.{is_printed, views_of}
 use Rattle.sq_top.specs.Ticks.{Outcome, accepted, refused}
 use Rattle.sq_top.specs.declared.refusal.Refusal.{Refusal}
 use Rattle.sq_top.specs.declared.refusal.Refusal.TheVariants.{Malformed, Absent, Range, Unfinished}

@@ -4,10 +4,9 @@ ghost use Rattle.sq_algebra.specs.Listed.{changed};
 ghost use Rattle.sq_algebra.specs.ZSet.{entries, of_list};
 ghost use Rattle.sq_value.specs.Order.{row_cmp};
 ghost use Rattle.sq_value.specs.Count.{count};
-ghost use Rattle.sq_zset.specs.Pairs.{weighted_rows, mass};
 
 use sq_value::{NoMemory, Row};
-use sq_zset::{Pair, ZFault, ZSet};
+use sq_zset::{ZFault, ZSet};
 use std::alloc::Global;
 
 /// The rows whose counts in the two lists differ, each with the rise of its count.
@@ -26,27 +25,20 @@ pub fn change_between(alloc: Global, before: &[Row], now: &[Row]) -> Result<ZSet
     }
 }
 
+// The Z-set of a list of rows.
 fn zset_of(alloc: Global, rows: &[Row]) -> Result<ZSet, NoMemory>
-    requires { length rows.now ≤ 2 ^ 62 }
     ensures { IfOk result (λ z. z ≡ of_list row_cmp rows.now) }
 {
-    let pairs = single_pairs(alloc, rows)?;
-    match ZSet::consolidate(alloc, pairs) {
-        Ok(zset) => Ok(zset),
-        Err(ZFault::Memory) => Err(NoMemory),
-        Err(ZFault::Weight { .. }) => unreachable!(),
-    }
+    ZSet::of_rows(alloc, copies(alloc, rows)?)
 }
 
-// Each row with the weight 1.
-fn single_pairs(alloc: Global, rows: &[Row]) -> Result<Vec<Pair>, NoMemory>
-    ensures pairs { IfOk result (λ pairs. weighted_rows pairs.items ≡ map (λ r. (r, pos 1)) rows.now) }
-    ensures mass { IfOk result (λ pairs. mass pairs.items ≡ length rows.now) }
+// Copies of the rows.
+fn copies(alloc: Global, rows: &[Row]) -> Result<Vec<Row>, NoMemory>
+    ensures { IfOk result (λ copies. copies.items ≡ rows.now) }
 {
-    let mut pairs = Vec::with_capacity(alloc, rows.len())?;
+    let mut copies = Vec::with_capacity(alloc, rows.len())?;
     for row in rows {
-        let row = row.clone_row(alloc)?;
-        pairs.push(Pair { row, weight: 1 })?;
+        copies.push(row.clone_row(alloc)?)?;
     }
-    Ok(pairs)
+    Ok(copies)
 }

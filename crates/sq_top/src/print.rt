@@ -8,7 +8,7 @@ ghost use Rattle.sq_top.specs.Outcomes.{outcome_of, Shows};
 use crate::change::change_between;
 use crate::json_text::{push_number, push_quoted, push_row};
 use crate::refusal::Refusal;
-use crate::relations::{is_printed, is_view, rows_in};
+use crate::relations::rows_in;
 use crate::tick::Outcome;
 use sq_catalog::{Catalog, Relation};
 use sq_typed::Program;
@@ -69,7 +69,7 @@ fn push_views(
     let mut view = 0usize;
     for i in 0..catalog.len() {
         let relation = catalog.at(i);
-        if is_view(relation.kind) {
+        if relation.kind.is_view() {
             push_view(
                 alloc,
                 out,
@@ -95,7 +95,7 @@ fn push_view(
     requires now { length now.now ≤ 2 ^ 62 }
     ensures { OnOk result (out.new.items ≡ out.old.items ++ view_text view.now before.now now.now) }
 {
-    if !is_printed(view.kind) {
+    if !view.kind.is_printed() {
         return Ok(());
     }
     let change = change_between(alloc, before, now)?;

@@ -1,9 +1,9 @@
 //! The tables and the views of a program, by their numbers.
 ghost use Rattle.std.specs.Prelude.{◌≡◌, IfOk};
 ghost use Rattle.sq_typed.specs.Laws.{rows_in as rows_in_lem};
-ghost use Rattle.sq_top.specs.Relations.{empty_tables as empty_tables_lem, view_name as view_name_lem, is_printed as is_printed_lem, is_view as is_view_lem};
+ghost use Rattle.sq_top.specs.Relations.{empty_tables as empty_tables_lem, view_name as view_name_lem};
 
-use sq_catalog::{Catalog, RelationKind};
+use sq_catalog::Catalog;
 use sq_value::{NoMemory, Row, Str};
 use sqlite_items::Items;
 use std::alloc::Global;
@@ -14,25 +14,11 @@ pub fn empty_tables(alloc: Global, catalog: &Catalog) -> Result<Vec<Items<Row>>,
 {
     let mut tables = Vec::new(alloc);
     for i in 0..catalog.len() {
-        if !is_view(catalog.at(i).kind) {
+        if catalog.at(i).kind.is_table() {
             tables.push(Items::new(alloc))?;
         }
     }
     Ok(tables)
-}
-
-/// Whether a relation is a view.
-pub fn is_view(kind: RelationKind) -> bool
-    ensures { result ≡ is_view_lem kind }
-{
-    matches!(kind, RelationKind::View { .. })
-}
-
-/// Whether the changes of a relation are printed.
-pub fn is_printed(kind: RelationKind) -> bool
-    ensures { result ≡ is_printed_lem kind }
-{
-    matches!(kind, RelationKind::View { printed: true })
 }
 
 /// The name of a view, by its number among the views.
@@ -42,7 +28,7 @@ pub fn view_name(alloc: Global, catalog: &Catalog, view: u32) -> Result<Str, NoM
     let mut left = view;
     for i in 0..catalog.len() {
         let relation = catalog.at(i);
-        if is_view(relation.kind) {
+        if relation.kind.is_view() {
             if left == 0 {
                 return relation.name.clone_str(alloc);
             }
