@@ -16,7 +16,7 @@ use Rattle.sq_value.specs.Count.{count}
 use Rattle.sq_algebra.specs.Listed.{changed}
 use Rattle.sq_algebra.specs.ZSet.{ZSet, entries, of_list, minus, weight_in}
 use Rattle.sq_algebra.proofs.Changes.{entries_change}
-use Rattle.sq_algebra.proofs.Weights.{weight-entries, weight-of_list, weight-minus, same_weights}
+use Rattle.sq_algebra.proofs.Weights.{weight-entries, weight-of_list, weight-minus}
 use Rattle.sq_zset.specs.Range.{is_in_range, first_outside_in, first_outside}
 use Rattle.sq_catalog.specs.declared.relation.Relation.{Relation}
 use Rattle.sq_typed.specs.From.{Row}

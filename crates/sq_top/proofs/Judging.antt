@@ -32,7 +32,7 @@ use Rattle.sq_top.specs.Judgements.{IsJudged, RangeStop, Starts}
 use Rattle.sq_top.specs.Relations.{empty_tables}
 use Rattle.sq_top.specs.declared.judge.Judged.{Judged}
 use Rattle.sq_top.specs.Lines.{lines_of, has_end_line, text_before_end}
-use Rattle.sq_top.specs.Programs.{longest_text, empty_verdict, IsText, Mean, StatementsFault, TokensFault, TextFault, HasFault, StatementsStop, TokensStop, TextStops, Stops, check_stop, lex_stop, parse_stop}
+use Rattle.sq_top.specs.Programs.{longest_text, empty_verdict, IsText, IsProgram, StatementsFault, TokensFault, TextFault, HasFault, StatementsStop, TokensStop, TextStops, Stops, check_stop, lex_stop, parse_stop}
 
 pub parse_stops : (tokens : List Token) (fault : ParseFault) → parse.HasCause tokens fault → TokensStop tokens (parse_stop fault)
 parse_stops tokens (parsing.NotGrammar n) cause = TokensFault.not_grammar cause
@@ -79,11 +79,19 @@ is_text input text ended before short = record { ended = ended; before = before;
 
 -- ---- the program of statements
 
--- statements that mean an accepted program
-pub judged_mean : (statements : List Statement) (p : Meant) (j : Judged) → refused statements ≡ None → Typed statements p → IsJudged p j → Mean statements j.program
-judged_mean statements p j none typed is = record {
+-- an accepted program is that of each input whose text has tokens that spell its statements
+pub judged_program : (statements : List Statement) (p : Meant) (j : Judged) → refused statements ≡ None → Typed statements p → IsJudged p j
+    → (input text : List ℕ) (tokens : List Token) → IsText input text → IsUtf8 text → Tokens text tokens → Spells tokens statements → IsProgram input j.program
+judged_program statements p j none means is input text tokens is_text utf8 lexed spelled = record {
+  text = text;
+  tokens = tokens;
+  statements = statements;
+  is_text = is_text;
+  utf8 = utf8;
+  lexed = lexed;
+  spelled = spelled;
   without_fault = none;
-  typed = is.program ∙ typed;
+  typed = is.program ∙ means;
   in_range = subst (λ q. empty_verdict q ≡ None) (sym is.program) is.in_range;
 }
 

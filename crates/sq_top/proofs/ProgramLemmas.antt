@@ -1,59 +1,54 @@
 -- An input has at most one program, and none if it has a fault, and at most one fault.
 use Rattle.std.proofs.Common.{◌≡◌, ℕ, ◌<◌, ◌≤◌, List, length, Option, Some, None, refl, sym, ap, ap₂, subst, ◌∙◌, arith}
 use Rattle.sq_token.specs.declared.token.Token.{Token}
+use Rattle.std.specs.Str.{IsUtf8}
+use Rattle.sq_token.specs.Reading.{Tokens}
 use Rattle.sq_token.proofs.Outcomes.{list_once, list_or_fault, fault_once}
 use Rattle.sq_ast.specs.declared.statement.Statement.{Statement}
-use Rattle.sq_ast.specs.Spelling.{kinds}
+use Rattle.sq_ast.specs.Spelling.{Spells, kinds}
 use Rattle.sq_ast.specs.Refusal as refusal
 use Rattle.sq_ast.proofs.Programs as spelled
+use Rattle.sq_typed.specs.Faults.{refused}
+use Rattle.sq_typed.specs.Programs.{Typed}
 use Rattle.sq_typed.specs.Views.{Meant}
 use Rattle.sq_typed.specs.declared.check_kind.CheckKind.{CheckKind}
 use Rattle.sq_top.specs.Lines.{lines_of, text_before_end}
-use Rattle.sq_top.specs.Programs.{longest_text, empty_verdict, IsText, Mean, SpellProgram, IsProgramText, IsProgram, StatementsFault, TokensFault, TextFault, HasFault, check, range, too_deep, not_grammar, in_statements, not_utf8, lex, in_tokens, text_too_long, no_end_too_long, no_end, in_text}
+use Rattle.sq_top.specs.Programs.{longest_text, empty_verdict, IsText, IsProgram, StatementsFault, TokensFault, TextFault, HasFault, check, range, too_deep, not_grammar, in_statements, not_utf8, lex, in_tokens, text_too_long, no_end_too_long, no_end, in_text}
 use Rattle.sq_top.specs.Relations.{view_name}
 use Rattle.sq_top.specs.declared.program_fault.ProgramFault.{ProgramFault}
 use Rattle.sq_top.specs.declared.program_fault.ProgramFault.TheVariants as faults
 
 -- ---- one program
 
-one_meant : (statements : List Statement) (p q : Meant) → Mean statements p → Mean statements q → p ≡ q
-one_meant statements p q m n = m.typed ∙ sym n.typed
-
-one_spelled : (tokens : List Token) (p q : Meant) → SpellProgram tokens p → SpellProgram tokens q → p ≡ q
-one_spelled tokens p q s t =
-    let same : s.statements ≡ t.statements = spelled.one_program (kinds tokens) s.statements t.statements s.spelled t.spelled in
-    one_meant t.statements p q (subst (λ x. Mean x p) same s.mean) t.mean
-
-one_text : (text : List ℕ) (p q : Meant) → IsProgramText text p → IsProgramText text q → p ≡ q
-one_text text p q s t =
-    let same : s.tokens ≡ t.tokens = list_once text s.tokens t.tokens s.lexed t.lexed in
-    one_spelled t.tokens p q (subst (λ x. SpellProgram x p) same s.spelled) t.spelled
-
 pub one_program : (input : List ℕ) (p q : Meant) → IsProgram input p → IsProgram input q → p ≡ q
 one_program input p q s t =
-    one_text t.text p q (subst (λ x. IsProgramText x p) (s.is_text.before ∙ sym t.is_text.before) s.is_program) t.is_program
+    let texts : s.text ≡ t.text = s.is_text.before ∙ sym t.is_text.before in
+    let tokens : s.tokens ≡ t.tokens = list_once t.text s.tokens t.tokens (subst (λ x. Tokens x s.tokens) texts s.lexed) t.lexed in
+    let statements : s.statements ≡ t.statements =
+    spelled.one_program (kinds t.tokens) s.statements t.statements (subst (λ x. Spells x s.statements) tokens s.spelled) t.spelled in
+    subst (λ x. Typed x p) statements s.typed ∙ sym t.typed
 
 -- ---- no fault beside it
 
-fault_of_statements : (statements : List Statement) (p : Meant) (fault : ProgramFault) → Mean statements p → StatementsFault statements fault → ⊥
-fault_of_statements statements p fault m (check e) = let none = m.without_fault in cc
-fault_of_statements statements p fault m (range q none typed e) =
-    let same : p ≡ q = m.typed ∙ sym typed in
-    let fine : empty_verdict q ≡ None = subst (λ x. empty_verdict x ≡ None) same m.in_range in cc
+module _ (input : List ℕ) (p : Meant) (s : IsProgram input p) where
+  fault_of_statements : (statements : List Statement) (fault : ProgramFault) → s.statements ≡ statements → StatementsFault statements fault → ⊥
+  fault_of_statements statements fault same (check e) = let none = subst (λ x. refused x ≡ None) same s.without_fault in cc
+  fault_of_statements statements fault same (range q none typed e) =
+      let means : p ≡ q = subst (λ x. Typed x p) same s.typed ∙ sym typed in
+      let fine : empty_verdict q ≡ None = subst (λ x. empty_verdict x ≡ None) means s.in_range in cc
 
-fault_of_tokens : (tokens : List Token) (p : Meant) (fault : ProgramFault) → SpellProgram tokens p → TokensFault tokens fault → ⊥
-fault_of_tokens tokens p fault s (too_deep r) = spelled.not_both (kinds tokens) s.statements _ s.spelled r
-fault_of_tokens tokens p fault s (not_grammar r) = spelled.not_both (kinds tokens) s.statements _ s.spelled r
-fault_of_tokens tokens p fault s (in_statements statements sp wrong) =
-    let same : s.statements ≡ statements = spelled.one_program (kinds tokens) s.statements statements s.spelled sp in
-    fault_of_statements statements p fault (subst (λ x. Mean x p) same s.mean) wrong
+  fault_of_tokens : (tokens : List Token) (fault : ProgramFault) → s.tokens ≡ tokens → TokensFault tokens fault → ⊥
+  fault_of_tokens tokens fault same (too_deep r) = spelled.not_both (kinds tokens) s.statements _ (subst (λ x. Spells x s.statements) same s.spelled) r
+  fault_of_tokens tokens fault same (not_grammar r) = spelled.not_both (kinds tokens) s.statements _ (subst (λ x. Spells x s.statements) same s.spelled) r
+  fault_of_tokens tokens fault same (in_statements statements sp wrong) =
+      fault_of_statements statements fault
+      (spelled.one_program (kinds tokens) s.statements statements (subst (λ x. Spells x s.statements) same s.spelled) sp) wrong
 
-fault_of_text : (text : List ℕ) (p : Meant) (fault : ProgramFault) → IsProgramText text p → TextFault text fault → ⊥
-fault_of_text text p fault s (not_utf8 unlike) = absurd (unlike s.utf8)
-fault_of_text text p fault s (lex {fault = found} utf8 first) = list_or_fault text s.tokens found s.lexed first
-fault_of_text text p fault s (in_tokens tokens utf8 lexed wrong) =
-    let same : s.tokens ≡ tokens = list_once text s.tokens tokens s.lexed lexed in
-    fault_of_tokens tokens p fault (subst (λ x. SpellProgram x p) same s.spelled) wrong
+  fault_of_text : (text : List ℕ) (fault : ProgramFault) → s.text ≡ text → TextFault text fault → ⊥
+  fault_of_text text fault same (not_utf8 unlike) = absurd (unlike (subst IsUtf8 same s.utf8))
+  fault_of_text text fault same (lex {fault = found} utf8 first) = list_or_fault text s.tokens found (subst (λ x. Tokens x s.tokens) same s.lexed) first
+  fault_of_text text fault same (in_tokens tokens utf8 lexed wrong) =
+      fault_of_tokens tokens fault (list_once text s.tokens tokens (subst (λ x. Tokens x s.tokens) same s.lexed) lexed) wrong
 
 pub not_both : (input : List ℕ) (p : Meant) (fault : ProgramFault) → IsProgram input p → HasFault input fault → ⊥
 not_both input p fault s (text_too_long ended long) =
@@ -61,8 +56,7 @@ not_both input p fault s (text_too_long ended long) =
     absurd (omega arith)
 not_both input p fault s (no_end_too_long without long) = let ended = s.is_text.ended in cc
 not_both input p fault s (no_end without short) = let ended = s.is_text.ended in cc
-not_both input p fault s (in_text {text = text} is wrong) =
-    fault_of_text text p fault (subst (λ x. IsProgramText x p) (s.is_text.before ∙ sym is.before) s.is_program) wrong
+not_both input p fault s (in_text {text = text} is wrong) = fault_of_text input p s text fault (s.is_text.before ∙ sym is.before) wrong
 
 -- ---- one fault
 

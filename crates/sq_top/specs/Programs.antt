@@ -38,30 +38,19 @@ pub record IsText (input text : List ℕ) : Type 0 where
 abbrev pub empty_verdict : Meant → Option ℕ
 empty_verdict p = verdict p (empty_tables p.catalog)
 
--- statements without a fault mean this program, and its views are in range over empty tables
-pub record Mean (statements : List Statement) (p : Meant) : Type 0 where
+-- An input begins with the text of this program and its end line: a text in UTF-8 whose tokens spell statements without a fault,
+-- which mean this program, and the program's views are in range over empty tables.
+pub record IsProgram (input : List ℕ) (p : Meant) : Type 0 where
+  pub text : List ℕ
+  pub tokens : List Token
+  pub statements : List Statement
+  pub is_text : IsText input text
+  pub utf8 : IsUtf8 text
+  pub lexed : Tokens text tokens
+  pub spelled : Spells tokens statements
   pub without_fault : refused statements ≡ None
   pub typed : Typed statements p
   pub in_range : empty_verdict p ≡ None
-
--- tokens spell statements that mean this program
-pub record SpellProgram (tokens : List Token) (p : Meant) : Type 0 where
-  pub statements : List Statement
-  pub spelled : Spells tokens statements
-  pub mean : Mean statements p
-
--- a text in UTF-8 has tokens that spell this program
-pub record IsProgramText (text : List ℕ) (p : Meant) : Type 0 where
-  pub tokens : List Token
-  pub utf8 : IsUtf8 text
-  pub lexed : Tokens text tokens
-  pub spelled : SpellProgram tokens p
-
--- an input begins with the text of this program and its end line
-pub record IsProgram (input : List ℕ) (p : Meant) : Type 0 where
-  pub text : List ℕ
-  pub is_text : IsText input text
-  pub is_program : IsProgramText text p
 
 -- the first fault of statements that tokens spell
 pub data StatementsFault : List Statement → ProgramFault → Type 0 where

@@ -1,10 +1,13 @@
 //! The judgement of the program of an input.
 ghost use Rattle.std.specs.Str.{IsUtf8};
 ghost use Rattle.std.specs.List.{AllByRecursion};
-ghost use Rattle.std.specs.Prelude.{◌≡◌, ◌↔◌, IsTrue, ◌<◌, ◌≤◌, ◌-◌, length, false, IfOk, IfErr};
+ghost use Rattle.std.specs.Prelude.{◌≡◌, ◌↔◌, IsTrue, ◌<◌, ◌≤◌, ◌-◌, ℕ, List, length, false, IfOk, IfErr};
+ghost use Rattle.sq_token.specs.declared.token.Token.{Token as Lexeme};
+ghost use Rattle.sq_token.specs.Reading.{Tokens};
+ghost use Rattle.sq_ast.specs.Spelling.{Spells};
 ghost use Rattle.sq_typed.specs.Checked.{Spelling};
 ghost use Rattle.sq_top.specs.Lines.{lines_of, has_end_line, lines_after_end};
-ghost use Rattle.sq_top.specs.Programs.{HasFault, longest_text, IsProgram, IsProgramText, SpellProgram, Mean, TextStops, Stops, StatementsStop, TokensStop};
+ghost use Rattle.sq_top.specs.Programs.{HasFault, longest_text, IsProgram, IsText, TextStops, Stops, StatementsStop, TokensStop};
 ghost use Rattle.sq_top.specs.Judgements.{IsJudged, Starts, RangeStop};
 
 use crate::lines::split_program;
@@ -122,7 +125,7 @@ fn without_end(input: &[u8]) -> ProgramFault
 // The program of a text, or its first fault.
 fn judge_text(alloc: Global, text: &[u8]) -> Result<Judged, JudgeStop>
     requires { length text.now ≤ longest_text }
-    ensures accepted { IfOk result (λ j. IsProgramText text.now j.program) }
+    ensures accepted { IfOk result (λ j. (input : List ℕ) → IsText input text.now → IsProgram input j.program) }
     ensures starts { IfOk result Starts }
     ensures refused { IfErr result (TextStops text.now) }
 {
@@ -133,10 +136,11 @@ fn judge_text(alloc: Global, text: &[u8]) -> Result<Judged, JudgeStop>
     judge_tokens(alloc, &tokens)
 }
 
-// The same for the tokens of a text.
+// The same for the tokens of a text in UTF-8.
 fn judge_tokens(alloc: Global, tokens: &[Token]) -> Result<Judged, JudgeStop>
     requires { length tokens.now ≤ longest_text }
-    ensures accepted { IfOk result (λ j. SpellProgram tokens.now j.program) }
+    ensures accepted { IfOk result (λ j. (input text : List ℕ) → IsText input text → IsUtf8 text → Tokens text tokens.now
+        → IsProgram input j.program) }
     ensures starts { IfOk result Starts }
     ensures refused { IfErr result (TokensStop tokens.now) }
 {
@@ -147,7 +151,8 @@ fn judge_tokens(alloc: Global, tokens: &[Token]) -> Result<Judged, JudgeStop>
 // The same for statements, each of which is spelled by some tokens.
 fn judge_statements(alloc: Global, statements: &[Statement]) -> Result<Judged, JudgeStop>
     requires { AllByRecursion Spelling statements.now }
-    ensures accepted { IfOk result (λ j. Mean statements.now j.program) }
+    ensures accepted { IfOk result (λ j. (input text : List ℕ) (tokens : List Lexeme) → IsText input text → IsUtf8 text
+        → Tokens text tokens → Spells tokens statements.now → IsProgram input j.program) }
     ensures starts { IfOk result Starts }
     ensures refused { IfErr result (StatementsStop statements.now) }
 {

@@ -13,3 +13,8 @@ returns-in_err-judged-clause-refused c =
     (text_stop c.args.input.now c.in-Some.text.now c.in_err-judged.field-0.0
     (is_text c.args.input.now c.in-Some.text.now c.in-Some.ensures.0 c.in-Some.ensures.1 c.if-text-gt-LONGEST_TEXT.false)
     c.in_err-judged.ensures.refused)
+
+pub returns-clause-accepted : goal.returns-clause-accepted
+returns-clause-accepted c =
+    c.in_ok-judged.ensures.accepted c.args.input.now
+    (is_text c.args.input.now c.in-Some.text.now c.in-Some.ensures.0 c.in-Some.ensures.1 c.if-text-gt-LONGEST_TEXT.false)

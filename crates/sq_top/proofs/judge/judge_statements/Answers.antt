@@ -1,6 +1,6 @@
-use Rattle.std.proofs.lemmas.Result.{err_from_is_err_and, IfErr-weaker}
+use Rattle.std.proofs.lemmas.Result.{err_from_is_err_and, IfErr-weaker, IfOk-weaker}
 use Rattle.std.proofs.Common.{ap, Err}
-use Rattle.sq_top.proofs.Judging.{check_stops, range_stops}
+use Rattle.sq_top.proofs.Judging.{check_stops, judged_program, range_stops}
 use Rattle.sq_top.proofs.judge.judge_statements.Goals as goal
 
 pub returns-in_err-program-clause-refused : goal.returns-in_err-program-clause-refused
@@ -13,3 +13,9 @@ returns-clause-refused c =
     IfErr-weaker c.judge_program.result _ _
     (λ stop wrong. range_stops c.args.statements.now c.in_ok-program.program stop c.in_ok-program.ensures.accepted c.in_ok-program.ensures.typed wrong)
     c.judge_program.ensures.refused
+
+pub returns-clause-accepted : goal.returns-clause-accepted
+returns-clause-accepted c =
+    IfOk-weaker c.judge_program.result _ _
+    (λ j is. judged_program c.args.statements.now c.in_ok-program.program j c.in_ok-program.ensures.accepted c.in_ok-program.ensures.typed is)
+    c.judge_program.ensures.accepted

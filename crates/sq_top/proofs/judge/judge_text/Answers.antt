@@ -1,4 +1,4 @@
-use Rattle.std.proofs.lemmas.Result.{err_from_is_err_and, IfErr-weaker}
+use Rattle.std.proofs.lemmas.Result.{err_from_is_err_and, IfErr-weaker, IfOk-weaker}
 use Rattle.std.proofs.Common.{subst, sym}
 use Rattle.sq_token.specs.Reading.{Tokens}
 use Rattle.sq_top.specs.Programs.{TextFault}
@@ -19,3 +19,10 @@ returns-clause-refused c =
     (λ stop wrong. tokens_stop c.args.text.now c.deref.result.now stop (istrue c.is_utf8.result c.is_utf8.ensures c.if-not-is_utf8.false)
     (subst (Tokens c.args.text.now) (sym c.deref.ensures.value) c.in_ok-tokens.ensures.found) wrong)
     c.judge_tokens.ensures.refused
+
+pub returns-clause-accepted : goal.returns-clause-accepted
+returns-clause-accepted c =
+    IfOk-weaker c.judge_tokens.result _ _
+    (λ j means input is_text. means input c.args.text.now is_text (istrue c.is_utf8.result c.is_utf8.ensures c.if-not-is_utf8.false)
+    (subst (Tokens c.args.text.now) (sym c.deref.ensures.value) c.in_ok-tokens.ensures.found))
+    c.judge_tokens.ensures.accepted

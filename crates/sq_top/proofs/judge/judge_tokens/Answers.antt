@@ -1,4 +1,4 @@
-use Rattle.std.proofs.lemmas.Result.{err_from_is_err_and, IfErr-weaker}
+use Rattle.std.proofs.lemmas.Result.{err_from_is_err_and, IfErr-weaker, IfOk-weaker}
 use Rattle.std.proofs.Common.{subst, sym}
 use Rattle.sq_ast.specs.Spelling.{Spells}
 use Rattle.sq_check.proofs.QueriesSpelled.{each_spelled}
@@ -18,3 +18,10 @@ returns-clause-refused c =
 
 pub judge_statements-requires : goal.judge_statements-requires
 judge_statements-requires c = each_spelled c.args.tokens.now c.deref.result.now (subst (Spells c.args.tokens.now) (sym c.deref.ensures.value) c.in_ok-statements.ensures.found)
+
+pub returns-clause-accepted : goal.returns-clause-accepted
+returns-clause-accepted c =
+    IfOk-weaker c.judge_statements.result _ _
+    (λ j means input text is_text utf8 lexed. means input text c.args.tokens.now is_text utf8 lexed
+    (subst (Spells c.args.tokens.now) (sym c.deref.ensures.value) c.in_ok-statements.ensures.found))
+    c.judge_statements.ensures.accepted
