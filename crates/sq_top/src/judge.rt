@@ -122,7 +122,7 @@ fn without_end(input: &[u8]) -> ProgramFault
     }
 }
 
-// The program of a text, or its first fault.
+// The program of a text, so of each input with this text, or the text's first fault.
 fn judge_text(alloc: Global, text: &[u8]) -> Result<Judged, JudgeStop>
     requires { length text.now ≤ longest_text }
     ensures accepted { IfOk result (λ j. (input : List ℕ) → IsText input text.now → IsProgram input j.program) }
