@@ -4,3 +4,4 @@ pub mod Inside
 pub mod Merge
 pub mod Collecting
 pub mod GroupLaws
+pub mod Loops

@@ -10,6 +10,7 @@ ghost use Rattle.sq_algebra.specs.Listed.{count, changed, first_of_each, among, 
 ghost use Rattle.sq_algebra.specs.Operators.{IsNonNegative, image, keep, distinct, product, meet};
 ghost use Rattle.sq_algebra.specs.ZSet.{ZSet as Weighted, entries, zero, single, of_list, weight, total, plus, negate, minus};
 ghost use Rattle.sq_zset.specs.Collecting.{mass_of};
+ghost use Rattle.sq_zset.specs.Loops.{nested_loops};
 
 use crate::{Group, OutsideRange, Pair, ZFault, ZSet};
 use sq_algebra::changes_are_differences;
@@ -73,7 +74,7 @@ pub fn operators_on_rows_follow_lists()
     ensures image { (f : List Datum → List (List Datum)) (rows : List (List Datum)) → image row_cmp f (of_list row_cmp rows) ≡ of_list row_cmp (flat_map f rows) }
     ensures test { (p : List Datum → Bool) (rows : List (List Datum)) → keep p (of_list row_cmp rows) ≡ of_list row_cmp (filter p rows) }
     ensures product { (f : List Datum → List Datum → List (List Datum)) (rows others : List (List Datum))
-        → product row_cmp f (of_list row_cmp rows) (of_list row_cmp others) ≡ of_list row_cmp (flat_map (λ row. flat_map (f row) others) rows) }
+        → product row_cmp f (of_list row_cmp rows) (of_list row_cmp others) ≡ of_list row_cmp (nested_loops f rows others) }
     ensures distinct { (rows : List (List Datum)) → distinct (of_list row_cmp rows) ≡ of_list row_cmp (first_of_each row_cmp rows) }
     ensures among { (rows others : List (List Datum)) → of_list row_cmp (among row_cmp rows others) ≡ meet (of_list row_cmp rows) (distinct (of_list row_cmp others)) }
     ensures without { (rows others : List (List Datum)) → of_list row_cmp (without row_cmp rows others) ≡ minus (of_list row_cmp rows) (meet (of_list row_cmp rows) (distinct (of_list row_cmp others))) }
