@@ -3,17 +3,26 @@
 --     least_of xs, greatest_of xs   the least and the greatest of some values, NULL of none
 --     list_value f column rows      the value of a call over the rows of a group
 --     row_of_list calls c rows      the row of the group with the key c.     group_of_list calls c rows     the same as a list, empty for no rows
+--     rows_of_groups spec rows      the rows of all groups, in the order of their first appearance
 --     rows_by_keys spec cs rows     the rows of the groups with the keys cs, in the order of cs
+--     NamesEachOnce spec cs rows    the key of each row stands once in the list cs
 --     all_pairs rows others         each row with each other one, in the order of nested loops
 --     is_joined op pair, row_of_pair op pair     whether a join gives a row for a pair, and which
-use Rattle.std.specs.Prelude.{ℕ, Bool, false, not, ◌&&◌, if◌then◌else◌, List, [], ◌∷◌, ◌++◌, map, fold, length, pos, Option, Some, None}
-use Rattle.std.specs.List.{filter, flat_map}
+--     joined_pairs op rows others   the Z-set of the rows that a join gives for all pairs
+--     joined_lists left right pair rows others     the join of the Z-sets of two lists
+--     joined_in_loops left right pair rows others     what nested loops over two lists give for rows with the same key
+use Rattle.std.specs.Prelude.{◌≡◌, ℕ, Bool, false, not, ◌&&◌, if◌then◌else◌, List, [], ◌∷◌, ◌++◌, map, fold, length, pos, Option, Some, None}
+use Rattle.std.specs.List.{All, filter, flat_map}
 use Rattle.std.specs.Ordering.{is_eq, is_lt}
 use Rattle.sq_value.specs.declared.value.Value.{Value}
 use Rattle.sq_value.specs.declared.value.Value.TheVariants.{Null, Int}
 use Rattle.sq_value.specs.Order.{row_cmp, value_cmp}
 use Rattle.sq_algebra.specs.Groups.{integers, sum_over}
-use Rattle.sq_algebra.specs.Keyed.{members_at}
+use Rattle.sq_algebra.specs.Keyed.{groups_by, members_at}
+use Rattle.sq_algebra.specs.Listed.{count}
+use Rattle.sq_algebra.specs.Operators.{pairs_where}
+use Rattle.sq_algebra.specs.ZSet.{ZSet, of_list}
+use Rattle.sq_zset.specs.Loops.{nested_loops}
 use Rattle.sq_expr.specs.declared.expr.Func.{Func}
 use Rattle.sq_expr.specs.declared.expr.Func.TheVariants.{CountAll, Count, Sum, Min, Max}
 use Rattle.sq_expr.specs.Meaning.{column_of, is_null}
@@ -21,8 +30,8 @@ use Rattle.sq_ops.specs.declared.aggregate.AggSpec.{AggSpec}
 use Rattle.sq_ops.specs.declared.aggregate.Call.{Call}
 use Rattle.sq_ops.specs.declared.bilinear.Pairing.{Pairing}
 use Rattle.sq_ops.specs.Aggregates.{group_of, has_value, number_at}
-use Rattle.sq_ops.specs.Joins.{columns_of, key_in}
-use Rattle.sq_ops.specs.Rows.{holds}
+use Rattle.sq_ops.specs.Joins.{columns_of, joined, key_in}
+use Rattle.sq_ops.specs.Rows.{Row, holds}
 use Rattle.sq_ops.specs.Wholes.{has_no_values}
 
 -- ---- aggregates
@@ -51,6 +60,12 @@ row_of_list calls c rows = c ++ map (λ call. list_value call.func call.arg rows
 abbrev pub group_of_list : List Call → List Value → List (List Value) → List (List Value)
 group_of_list calls c rows = if has_no_values rows then [] else row_of_list calls c rows ∷ []
 
+abbrev pub rows_of_groups : AggSpec → List Row → List Row
+rows_of_groups spec rows = groups_by row_cmp (group_of spec) (group_of_list spec.calls) rows
+
+abbrev pub NamesEachOnce : AggSpec → List Row → List Row → Type 0
+NamesEachOnce spec cs rows = All (λ row. count row_cmp (group_of spec row) cs ≡ 1) rows
+
 abbrev pub rows_by_keys : AggSpec → List (List Value) → List (List Value) → List (List Value)
 rows_by_keys spec cs rows = flat_map (λ c. group_of_list spec.calls c (members_at row_cmp (group_of spec) c rows)) cs
 
@@ -70,3 +85,13 @@ is_joined op pair = is_same_key (key_in op.left op.nulls_match pair.0) (key_in o
 
 abbrev pub row_of_pair : Pairing → List Value × List Value → List Value
 row_of_pair op pair = columns_of op.items (pair.0 ++ pair.1)
+
+abbrev pub joined_pairs : Pairing → List Row → List Row → ZSet Row row_cmp
+joined_pairs op rows others = of_list row_cmp (map (row_of_pair op) (filter (is_joined op) (all_pairs rows others)))
+
+module _ (left right : Row → Option Row) (pair : Row → Row → Option Row) where
+  abbrev pub joined_lists : List Row → List Row → ZSet Row row_cmp
+  joined_lists rows others = joined left right pair (of_list row_cmp rows) (of_list row_cmp others)
+
+  abbrev pub joined_in_loops : List Row → List Row → List Row
+  joined_in_loops rows others = nested_loops (pairs_where row_cmp left right pair) rows others

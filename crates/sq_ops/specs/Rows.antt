@@ -1,4 +1,4 @@
--- What the linear operators make of a row.
+-- Rows, and what the linear operators make of a row.
 --     kept c row, items_of es row, padded n row      the images under Keep, and the one image under Project and under Pad
 --     numbers_of es row      the numbers among the items.      holds c row      whether a condition is True
 use Rattle.std.specs.Prelude.{ℕ, ℤ, Bool, if◌then◌else◌, List, [], ◌∷◌, ◌++◌, map, replicate}
@@ -9,6 +9,10 @@ use Rattle.sq_value.specs.declared.value.Value.TheVariants.{Null, Int, Text}
 use Rattle.sq_expr.specs.declared.cond.Cond.{Cond}
 use Rattle.sq_expr.specs.declared.expr.Expr.{Expr}
 use Rattle.sq_expr.specs.Meaning.{num, truth}
+
+-- the values of a row, from left to right
+abbrev pub Row : Type 0
+Row = List Value
 
 -- whether a condition is True on a row
 abbrev pub holds : Cond → List Value → Bool

@@ -1,19 +1,16 @@
 //! What joins, distinct and aggregates do to the Z-sets of lists, each as the contract of a function that does nothing.
-ghost use Rattle.std.specs.Prelude.{◌≡◌, false, true, ℕ, List, [], ◌∷◌, map};
-ghost use Rattle.std.specs.List.{All, filter, flat_map};
-ghost use Rattle.sq_algebra.specs.Keyed.{groups_by};
-ghost use Rattle.sq_algebra.specs.Listed.{count, first_of_each};
-ghost use Rattle.sq_algebra.specs.Operators.{pairs_where};
+ghost use Rattle.std.specs.Prelude.{◌≡◌, false, true, ℕ, List, [], ◌∷◌};
+ghost use Rattle.sq_algebra.specs.Listed.{first_of_each};
 ghost use Rattle.sq_algebra.specs.ZSet.{ZSet, of_list};
 ghost use Rattle.sq_expr.specs.declared.expr.Func.{Func as Function};
-ghost use Rattle.sq_ops.specs.Aggregates.{call_value, group_of};
+ghost use Rattle.sq_ops.specs.Aggregates.{call_value};
 ghost use Rattle.sq_ops.specs.Joins.{IsAdditiveInEach, joined};
-ghost use Rattle.sq_ops.specs.Lists.{all_pairs, group_of_list, is_joined, list_value, row_of_list, row_of_pair, rows_by_keys};
+ghost use Rattle.sq_ops.specs.Lists.{NamesEachOnce, joined_in_loops, joined_lists, joined_pairs, list_value, row_of_list, rows_by_keys, rows_of_groups};
+ghost use Rattle.sq_ops.specs.Rows.{Row};
 ghost use Rattle.sq_ops.specs.Wholes.{IsNothingForNone, sum_of_parts};
 ghost use Rattle.sq_ops.specs.declared.aggregate.AggSpec.{AggSpec as Aggregating};
 ghost use Rattle.sq_ops.specs.declared.bilinear.Pairing.{Pairing as Joining};
 ghost use Rattle.sq_ops.specs.declared.whole.Distinct.{Distinct as Distinguishing};
-ghost use Rattle.sq_value.specs.declared.value.Value.{Value as Datum};
 ghost use Rattle.sq_value.specs.Order.{row_cmp};
 ghost use Rattle.sq_algebra.specs.Groups.{z_sets};
 
@@ -22,47 +19,46 @@ use crate::{AggSpec, Bilinear, Call, Distinct, Index, Pairing, Whole, WholeFault
 /// A join of the Z-sets of two lists is the Z-set of what nested loops over the lists give, and it is additive in each
 /// place.
 pub fn joins_are_nested_loops<B: Bilinear>()
-    ensures lists { (op : B) (rows others : List (List Datum))
-        → joined (B.left_keys op) (B.right_keys op) (B.pairs op) (of_list row_cmp rows) (of_list row_cmp others)
-        ≡ of_list row_cmp (flat_map (λ row. flat_map (pairs_where row_cmp (B.left_keys op) (B.right_keys op) (B.pairs op) row) others) rows) }
+    ensures lists { (op : B) (rows others : List Row)
+        → joined_lists (B.left_keys op) (B.right_keys op) (B.pairs op) rows others
+        ≡ of_list row_cmp (joined_in_loops (B.left_keys op) (B.right_keys op) (B.pairs op) rows others) }
     ensures additive { (op : B) → IsAdditiveInEach (z_sets row_cmp) (z_sets row_cmp) (z_sets row_cmp) (joined (B.left_keys op) (B.right_keys op) (B.pairs op)) }
 {}
 
 /// The groups may be gone through in any order: by any list of keys in which that of each row stands once. A key there
 /// that no row has gives no row.
 pub fn groups_come_in_any_order()
-    ensures { (spec : Aggregating) (keys rows : List (List Datum)) → spec.global ≡ false
-        → All (λ row. count row_cmp (group_of spec row) keys ≡ 1) rows → ⟦<AggSpec as Whole>⟧.answers spec (of_list row_cmp rows)
-        ≡ of_list row_cmp (rows_by_keys spec keys rows) }
+    ensures { (spec : Aggregating) (keys rows : List Row) → spec.global ≡ false
+        → NamesEachOnce spec keys rows → ⟦<AggSpec as Whole>⟧.answers spec (of_list row_cmp rows) ≡ of_list row_cmp (rows_by_keys spec keys rows) }
 {}
 
 /// An operator that works key by key is the sum of its parts, and a part over no rows is empty, but for a standing one.
 pub fn parts_add_up<W: Whole>()
-    ensures parts { (op : W) (z : ZSet (List Datum) row_cmp) → W.answers op z ≡ sum_of_parts (W.parts op) (W.stands op) (W.keys op) z }
+    ensures parts { (op : W) (z : ZSet Row row_cmp) → W.answers op z ≡ sum_of_parts (W.parts op) (W.stands op) (W.keys op) z }
     ensures none { (op : W) → IsNothingForNone (W.parts op) (W.stands op) }
 {}
 
 /// Distinct of the Z-set of a list is the Z-set of the list without repeats.
 pub fn distinct_has_no_repeats()
-    ensures { (op : Distinguishing) (rows : List (List Datum)) → ⟦<Distinct as Whole>⟧.answers op (of_list row_cmp rows) ≡ of_list row_cmp (first_of_each row_cmp rows) }
+    ensures { (op : Distinguishing) (rows : List Row) → ⟦<Distinct as Whole>⟧.answers op (of_list row_cmp rows) ≡ of_list row_cmp (first_of_each row_cmp rows) }
 {}
 
 /// A `Pairing` of the Z-sets of two lists is the Z-set of a list: of all pairs of rows those that have the same keys and
 /// on whose joined row the condition is True, and of each the columns that are given.
 pub fn pairings_are_filters_of_pairs()
-    ensures { (op : Joining) (rows others : List (List Datum))
-        → joined (⟦<Pairing as Bilinear>⟧.left_keys op) (⟦<Pairing as Bilinear>⟧.right_keys op) (⟦<Pairing as Bilinear>⟧.pairs op) (of_list row_cmp rows) (of_list row_cmp others)
-        ≡ of_list row_cmp (map (row_of_pair op) (filter (is_joined op) (all_pairs rows others))) }
+    ensures { (op : Joining) (rows others : List Row)
+        → joined_lists (⟦<Pairing as Bilinear>⟧.left_keys op) (⟦<Pairing as Bilinear>⟧.right_keys op) (⟦<Pairing as Bilinear>⟧.pairs op) rows others
+        ≡ joined_pairs op rows others }
 {}
 
 /// An aggregate of the Z-set of a list is the Z-set of the rows of its groups, in the order of their first appearance; a
 /// global one has one row. The value of a call over the Z-set of a list of rows is that over the list, in which each row
 /// stands as often as it counts.
 pub fn aggregates_of_lists()
-    ensures groups { (spec : Aggregating) (rows : List (List Datum)) → spec.global ≡ false → ⟦<AggSpec as Whole>⟧.answers spec (of_list row_cmp rows)
-        ≡ of_list row_cmp (groups_by row_cmp (group_of spec) (group_of_list spec.calls) rows) }
-    ensures global { (spec : Aggregating) (rows : List (List Datum)) → spec.global ≡ true → ⟦<AggSpec as Whole>⟧.answers spec (of_list row_cmp rows) ≡ of_list row_cmp (row_of_list spec.calls [] rows ∷ []) }
-    ensures values { (f : Function) (column : ℕ) (rows : List (List Datum)) → call_value f column (of_list row_cmp rows) ≡ list_value f column rows }
+    ensures groups { (spec : Aggregating) (rows : List Row) → spec.global ≡ false → ⟦<AggSpec as Whole>⟧.answers spec (of_list row_cmp rows)
+        ≡ of_list row_cmp (rows_of_groups spec rows) }
+    ensures global { (spec : Aggregating) (rows : List Row) → spec.global ≡ true → ⟦<AggSpec as Whole>⟧.answers spec (of_list row_cmp rows) ≡ of_list row_cmp (row_of_list spec.calls [] rows ∷ []) }
+    ensures values { (f : Function) (column : ℕ) (rows : List Row) → call_value f column (of_list row_cmp rows) ≡ list_value f column rows }
 {}
 
 fn is_send_and_sync<T: Send + Sync>() {}
