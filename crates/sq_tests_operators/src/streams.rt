@@ -1,9 +1,9 @@
 //! Streams: three steps of each operator, refused steps that keep the state, and the laws at operators of a test's own.
-ghost use Rattle.std.specs.Prelude.{◌≡◌, List, IfOk};
+ghost use Rattle.std.specs.Prelude.{◌≡◌, IfOk};
 ghost use Rattle.sq_algebra.specs.Groups.{z_sets};
-ghost use Rattle.sq_algebra.specs.ZSet.{ZSet as Weighted, plus};
-ghost use Rattle.sq_stream.specs.Streams.{delayed, incremental, integral, lifted, pointwise_sum};
-ghost use Rattle.sq_value.specs.declared.value.Value.{Value as Datum};
+ghost use Rattle.sq_algebra.specs.ZSet.{plus};
+ghost use Rattle.sq_stream.specs.RowStreams.{RowStream, incremental_on_rows, sum_on_rows};
+ghost use Rattle.sq_stream.specs.Streams.{delayed, integral, lifted};
 ghost use Rattle.sq_value.specs.Order.{row_cmp};
 
 use crate::rows::{LIMIT, SUM_LIMIT, check_rows, zset_of};
@@ -142,9 +142,11 @@ impl Operator for Later {
 
 // The changes of what is doubled are the changes, doubled, and so is each law met at these two operators.
 fn laws_at_operators()
-    ensures linear { (s : List (Weighted (List Datum) row_cmp)) → incremental (z_sets row_cmp) (lifted (λ z. plus z z)) s ≡ lifted (λ z. plus z z) s }
-    ensures chain { (s : List (Weighted (List Datum) row_cmp)) → incremental (z_sets row_cmp) (λ t. lifted (λ z. plus z z) (delayed (z_sets row_cmp) t)) s ≡ lifted (λ z. plus z z) (incremental (z_sets row_cmp) (delayed (z_sets row_cmp)) s) }
-    ensures sum { (s : List (Weighted (List Datum) row_cmp)) → incremental (z_sets row_cmp) (λ t. pointwise_sum (z_sets row_cmp) (lifted (λ z. plus z z) t) (delayed (z_sets row_cmp) t)) s ≡ pointwise_sum (z_sets row_cmp) (lifted (λ z. plus z z) s) (incremental (z_sets row_cmp) (delayed (z_sets row_cmp)) s) }
+    ensures linear { (s : RowStream) → incremental_on_rows (lifted (λ z. plus z z)) s ≡ lifted (λ z. plus z z) s }
+    ensures chain { (s : RowStream) → incremental_on_rows (λ t. lifted (λ z. plus z z) (delayed (z_sets row_cmp) t)) s
+        ≡ lifted (λ z. plus z z) (incremental_on_rows (delayed (z_sets row_cmp)) s) }
+    ensures sum { (s : RowStream) → incremental_on_rows (λ t. sum_on_rows (lifted (λ z. plus z z) t) (delayed (z_sets row_cmp) t)) s
+        ≡ sum_on_rows (lifted (λ z. plus z z) s) (incremental_on_rows (delayed (z_sets row_cmp)) s) }
 {
     linear_operators_are_incremental::<Doubled>();
     chain_rule::<Later, Doubled>();

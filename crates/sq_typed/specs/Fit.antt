@@ -1,12 +1,13 @@
 -- Which queries fit the relations before them, and of which kinds their columns are.
 --     kinds_given relations q        the kinds of its columns.       Fits relations q        all that it names is there and has a type
 --     ProgramFits        each view's query fits, with the kinds of the view's columns
-use Rattle.std.specs.Prelude.{◌≡◌, ◌^◌, nat_lt, Bool, true, false, not, ◌&&◌, ◌||◌, List, [], ◌∷◌, ◌++◌, map, fold, length, drop, get_or, slice_get, Option, Some, None, IsTrue, is_some, ⊤}
+use Rattle.std.specs.Prelude.{◌≡◌, ◌^◌, nat_lt, Bool, true, false, not, ◌&&◌, ◌||◌, List, [], ◌∷◌, ◌++◌, map, fold, length, drop, get_or, slice_get, Option, Some, None, IsTrue, is_some, option_to_list, ⊤}
 use Rattle.std.specs.List.{AllByRecursion, filter_map, flat_map, list_all}
 use Rattle.sq_catalog.specs.declared.relation.Relation.{Relation}
 use Rattle.sq_catalog.specs.declared.relation.RelationKind.{RelationKind}
 use Rattle.sq_catalog.specs.declared.relation.RelationKind.TheVariants.{Table, View}
 use Rattle.sq_expr.specs.Bounds.{bound_of, parts, cond_parts}
+use Rattle.sq_expr.specs.Fits.{Suits}
 use Rattle.sq_expr.specs.Kinds.{AreOfKinds}
 use Rattle.sq_expr.specs.Typing.{sort_of, sort_of_kind, is_numeric, are_alike, is_typed_cond}
 use Rattle.sq_expr.specs.declared.cond.Cond.{Cond}
@@ -15,6 +16,8 @@ use Rattle.sq_expr.specs.declared.expr.Func.{Func}
 use Rattle.sq_expr.specs.declared.expr.Func.TheVariants.{CountAll, Count, Sum, Min, Max}
 use Rattle.sq_expr.specs.declared.expr.Kind.{Kind}
 use Rattle.sq_expr.specs.declared.expr.Kind.TheVariants.{Bigint}
+use Rattle.sq_typed.specs.declared.query.Block.{Block, out-Block}
+use Rattle.sq_typed.specs.declared.query.BlockCall.{BlockCall}
 use Rattle.sq_typed.specs.declared.query.FromItem.{FromItem}
 use Rattle.sq_typed.specs.declared.query.FromJoin.{FromJoin}
 use Rattle.sq_typed.specs.declared.query.FromJoin.TheVariants.{Comma, Inner, Left}
@@ -23,14 +26,15 @@ use Rattle.sq_typed.specs.declared.query.Origin.{Origin}
 use Rattle.sq_typed.specs.declared.query.Origin.TheFolds.{fold-Query, fold-Origin, fold-FromItem}
 use Rattle.sq_typed.specs.declared.query.Origin.TheOpen.{Query-F, Block-F, FromItem-F, Origin-F}
 use Rattle.sq_typed.specs.declared.query.Query.{Query}
-use Rattle.sq_typed.specs.Blocks.{is_sum}
+use Rattle.sq_typed.specs.Blocks.{is_sum, selected, tested_calls}
 use Rattle.sq_typed.specs.From.{Row, Answer, Source}
 use Rattle.sq_typed.specs.Laws.{by_kind}
 use Rattle.sq_typed.specs.Numbered.{kind_of, call_kind}
-use Rattle.sq_typed.specs.Queries.{Contents}
+use Rattle.sq_typed.specs.Queries.{Contents, answer, is_outside}
 use Rattle.sq_typed.specs.Resolved.{wider}
 use Rattle.sq_typed.specs.Tables.{Tables}
-use Rattle.sq_typed.specs.Views.{first_rows}
+use Rattle.sq_typed.specs.Views.{Meant, first_rows, verdict, views}
+use Rattle.sq_value.specs.declared.value.Value.{Value}
 
 -- the kinds of the columns of a query, and whether it fits
 pub record Kinded : Type 0 where
@@ -91,6 +95,14 @@ is_count_all Max = false
 abbrev pub argument_fits : List Kind → Func → Option Expr → Bool
 argument_fits kinds f None = is_count_all f
 argument_fits kinds f (Some e) = not (is_count_all f) && (suits kinds e && (not (is_sum f) || is_numeric (sort_of kinds e)))
+
+-- the argument of a call suits, if there is one
+abbrev pub ArgumentSuits : List Kind → BlockCall → Type 0
+ArgumentSuits kinds c = AllByRecursion (Suits kinds) (option_to_list c.arg)
+
+-- a block has groups by this
+abbrev pub IsGroupedBy : Block → Grouping → Type 0
+IsGroupedBy b g = (out-Block b).grouping ≡ Some g
 
 -- the kinds of the group row
 abbrev pub grouped_kinds : List Kind → Grouping → List Kind
@@ -177,6 +189,14 @@ module _ (relations : List (List Kind)) where
   unfoldable pub kinded_source : FromItem → KindedSource
   kinded_source s = fold-FromItem Kinded Kinded Kinded KindedSource Kinded kinded_by_origin kinded_by_query kinded_by_block kinded_by_source (λ s. s.query) s
 
+  -- the kinds of the columns of all sources of a block, one behind the other
+  abbrev pub source_kinds : Block → List Kind
+  source_kinds b = joined_kinds (map kinded_source (out-Block b).sources)
+
+  -- the kinds of the group row of a block
+  abbrev pub group_kinds : Block → Grouping → List Kind
+  group_kinds b g = grouped_kinds (source_kinds b) g
+
   -- the kinds of the columns of a query
   abbrev pub kinds_given : Query → List Kind
   kinds_given q = (kinded q).kinds
@@ -203,6 +223,21 @@ HoldsKinds c kinds = (c.width ≡ length kinds) × AreAllOfKinds c.rows kinds
 
 abbrev pub GivesKinds : Answer → List Kind → Type 0
 GivesKinds a kinds = (a.width ≡ length kinds) × AreAllOfKinds a.rows kinds
+
+-- what a query gives is of its kinds
+abbrev pub GivesItsKinds : List Contents → List (List Kind) → Query → Type 0
+GivesItsKinds relations kinds q = GivesKinds (answer relations q) (kinds_given kinds q)
+
+-- none of these values is a number outside BIGINT
+abbrev pub AreInRange : List Value → Type 0
+AreInRange xs = AllByRecursion (λ x. is_outside x ≡ false) xs
+
+-- the values of the calls over the groups of these rows, and those of the items on these rows
+abbrev pub CallsAreInRange : Grouping → List Row → Type 0
+CallsAreInRange g rows = AreInRange (tested_calls (Some g) rows)
+
+abbrev pub ItemsAreInRange : List Expr → List Row → Type 0
+ItemsAreInRange items rows = AreInRange (flat_map (λ row. row) (selected items rows))
 
 abbrev pub SourceGivesKinds : Source → List Kind → Type 0
 SourceGivesKinds s kinds = GivesKinds s.answer kinds
@@ -235,3 +270,7 @@ if_view (View printed) kinds = Some kinds
 -- the kinds of the columns of each view
 abbrev pub view_kinds : List Relation → List (List Kind)
 view_kinds relations = filter_map (λ r. if_view r.kind (kinds_of r)) relations
+
+-- if the tables hold rows of their kinds and all views can be shown, the rows of each view are of the kinds of its columns
+abbrev pub ViewsAreOfKinds : Meant → Tables → Type 0
+ViewsAreOfKinds p tables = TablesAreOfKinds tables p.catalog → verdict p tables ≡ None → Pairwise GivesKinds (views p tables) (view_kinds p.catalog)

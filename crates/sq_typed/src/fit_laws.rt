@@ -12,19 +12,19 @@ ghost use Rattle.sq_typed.specs.declared.query.Query.{Query as Selection};
 ghost use Rattle.sq_expr.specs.Fits.{Suits, SuitsCond};
 ghost use Rattle.sq_typed.specs.declared.query.Block.{Block as Selected, out-Block};
 ghost use Rattle.sq_typed.specs.declared.query.Query.TheVariants as query;
-ghost use Rattle.sq_typed.specs.Blocks.{item_rows, selected, tested_calls};
+ghost use Rattle.sq_typed.specs.Blocks.{item_rows, selected};
 ghost use Rattle.sq_typed.specs.Faults.{refused};
-ghost use Rattle.sq_typed.specs.Fit.{AreAllOfKinds, Fits, GivesKinds, HoldsKinds, Pairwise, ProgramFits, SourceGivesKinds, TablesAreOfKinds};
-ghost use Rattle.sq_typed.specs.Fit.{grouped_kinds, item_row_kinds, joined_kinds, kinded_source, kinds_given, sources_fit, suits, suits_cond, view_kinds};
+ghost use Rattle.sq_typed.specs.Fit.{AreAllOfKinds, ArgumentSuits, CallsAreInRange, Fits, GivesItsKinds, HoldsKinds, IsGroupedBy, ItemsAreInRange, Pairwise, ProgramFits, SourceGivesKinds, ViewsAreOfKinds};
+ghost use Rattle.sq_typed.specs.Fit.{group_kinds, grouped_kinds, item_row_kinds, kinded_source, kinds_given, source_kinds, sources_fit, suits, suits_cond};
 ghost use Rattle.sq_typed.specs.FitExamples as examples;
 ghost use Rattle.sq_typed.specs.From.{Row, Source, from, kept};
 ghost use Rattle.sq_typed.specs.Laws.{QueriesFit};
 ghost use Rattle.sq_typed.specs.Numbered.{kind_of};
 ghost use Rattle.sq_typed.specs.Programs.{program_of};
-ghost use Rattle.sq_typed.specs.Queries.{Contents, answer, has_range_fault, is_outside};
+ghost use Rattle.sq_typed.specs.Queries.{Contents, answer, has_range_fault};
 ghost use Rattle.sq_typed.specs.Relations.{columns_given};
 ghost use Rattle.sq_typed.specs.Tables.{Tables};
-ghost use Rattle.sq_typed.specs.Views.{Meant, verdict, views};
+ghost use Rattle.sq_typed.specs.Views.{Meant};
 ghost use Rattle.sq_typed.specs.Written.{AllWritten};
 
 /// The tests of what fits are exact: an expression or a condition passes if it has a type and is computed in 128 bits. In
@@ -35,14 +35,14 @@ pub fn what_fits_suits()
     ensures expression { (kinds : List ColumnKind) (e : Expression) → (suits kinds e ≡ true) ↔ Suits kinds e }
     ensures condition { (kinds : List ColumnKind) (c : Condition) → (suits_cond kinds c ≡ true) ↔ SuitsCond kinds c }
     ensures filter { (relations : List (List ColumnKind)) (b : Selected) → Fits relations (query.Block b) →
-        AllByRecursion (SuitsCond (joined_kinds (map (kinded_source relations) (out-Block b).sources))) (option_to_list (out-Block b).filter) }
+        AllByRecursion (SuitsCond (source_kinds relations b)) (option_to_list (out-Block b).filter) }
     ensures items { (relations : List (List ColumnKind)) (b : Selected) → Fits relations (query.Block b) →
-        AllByRecursion (Suits (item_row_kinds (joined_kinds (map (kinded_source relations) (out-Block b).sources)) (out-Block b).grouping)) (out-Block b).items }
+        AllByRecursion (Suits (item_row_kinds (source_kinds relations b) (out-Block b).grouping)) (out-Block b).items }
     ensures sources { (relations : List (List ColumnKind)) (b : Selected) → Fits relations (query.Block b) → sources_fit [] (map (kinded_source relations) (out-Block b).sources) ≡ true }
-    ensures having { (relations : List (List ColumnKind)) (b : Selected) → Fits relations (query.Block b) → (g : Groups) → (out-Block b).grouping ≡ Some g →
-        AllByRecursion (SuitsCond (grouped_kinds (joined_kinds (map (kinded_source relations) (out-Block b).sources)) g)) (option_to_list g.having) }
-    ensures arguments { (relations : List (List ColumnKind)) (b : Selected) → Fits relations (query.Block b) → (g : Groups) → (out-Block b).grouping ≡ Some g →
-        AllByRecursion (λ c. AllByRecursion (Suits (joined_kinds (map (kinded_source relations) (out-Block b).sources))) (option_to_list c.arg)) g.calls }
+    ensures having { (relations : List (List ColumnKind)) (b : Selected) → Fits relations (query.Block b) → (g : Groups) → IsGroupedBy b g →
+        AllByRecursion (SuitsCond (group_kinds relations b g)) (option_to_list g.having) }
+    ensures arguments { (relations : List (List ColumnKind)) (b : Selected) → Fits relations (query.Block b) → (g : Groups) → IsGroupedBy b g →
+        AllByRecursion (ArgumentSuits (source_kinds relations b)) g.calls }
 {}
 
 /// The rows of FROM and those that WHERE keeps are of the kinds of all sources, one behind the other. If no tested number
@@ -52,15 +52,15 @@ pub fn rows_of_blocks_are_of_kinds()
     ensures joined { (sources : List Source) (kinds : List (List ColumnKind)) → Pairwise SourceGivesKinds sources kinds → AreAllOfKinds (from sources) (flat_map (λ ks. ks) kinds) }
     ensures kept { (conds : List Condition) (sources : List Source) (kinds : List (List ColumnKind)) → Pairwise SourceGivesKinds sources kinds → AreAllOfKinds (kept conds sources) (flat_map (λ ks. ks) kinds) }
     ensures grouped { (kinds : List ColumnKind) (g : Groups) (rows : List Row) → length rows ≤ 2 ^ 61 → AreAllOfKinds rows kinds →
-        AllByRecursion (λ x. is_outside x ≡ false) (tested_calls (Some g) rows) → AreAllOfKinds (item_rows (Some g) rows) (grouped_kinds kinds g) }
+        CallsAreInRange g rows → AreAllOfKinds (item_rows (Some g) rows) (grouped_kinds kinds g) }
     ensures items { (kinds : List ColumnKind) (items : List Expression) (rows : List Row) → AreAllOfKinds rows kinds →
-        AllByRecursion (λ x. is_outside x ≡ false) (flat_map (λ row. row) (selected items rows)) → AreAllOfKinds (selected items rows) (map (kind_of kinds) items) }
+        ItemsAreInRange items rows → AreAllOfKinds (selected items rows) (map (kind_of kinds) items) }
 {}
 
 /// A query that fits relations with rows of their kinds gives rows of its kinds, if nothing of it is out of range.
 pub fn rows_of_queries_are_of_kinds()
     ensures { (relations : List Contents) (kinds : List (List ColumnKind)) → Pairwise HoldsKinds relations kinds → (q : Selection) → Fits kinds q →
-        has_range_fault (answer relations q) ≡ false → GivesKinds (answer relations q) (kinds_given kinds q) }
+        has_range_fault (answer relations q) ≡ false → GivesItsKinds relations kinds q }
 {}
 
 /// A query that fits gives as many columns as it has kinds.
@@ -74,7 +74,7 @@ pub fn what_fits_is_as_wide()
 /// the kinds of its columns.
 #[tactic(auto, using(crate::proofs::FitPrograms::views_are_of_kinds))]
 pub fn rows_of_views_are_of_kinds()
-    ensures { (p : Meant) (tables : Tables) → ProgramFits [] p.queries p.catalog → TablesAreOfKinds tables p.catalog → verdict p tables ≡ Nothing → Pairwise GivesKinds (views p tables) (view_kinds p.catalog) }
+    ensures { (p : Meant) (tables : Tables) → ProgramFits [] p.queries p.catalog → ViewsAreOfKinds p tables }
 {}
 
 /// Statements that tokens spell and of which none has a fault mean a program whose queries fit, and give as many columns as the
@@ -87,8 +87,7 @@ pub fn accepted_statements_fit()
     ensures fits { (tokens : List SpelledToken) (statements : List StatementTree) → Spells tokens statements → refused statements ≡ Nothing → ProgramFits [] (program_of statements).queries (program_of statements).catalog }
     ensures widths { (tokens : List SpelledToken) (statements : List StatementTree) → Spells tokens statements → refused statements ≡ Nothing → QueriesFit [] (program_of statements).queries (program_of statements).catalog }
     ensures rows { (tokens : List SpelledToken) (statements : List StatementTree) → Spells tokens statements → refused statements ≡ Nothing → (tables : Tables) →
-        TablesAreOfKinds tables (program_of statements).catalog → verdict (program_of statements) tables ≡ Nothing →
-        Pairwise GivesKinds (views (program_of statements) tables) (view_kinds (program_of statements).catalog) }
+        ViewsAreOfKinds (program_of statements) tables }
 {}
 
 /// Small queries that fit a table of an `INTEGER` and a text, or don't, as `specs/FitExamples.antt` writes them.
