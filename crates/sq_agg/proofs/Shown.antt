@@ -8,7 +8,7 @@ use Rattle.sq_value.specs.Order.{row_cmp}
 use Rattle.sq_algebra.specs.ZSet.{ZSet}
 use Rattle.sq_ops.specs.declared.aggregate.AggSpec.{AggSpec}
 use Rattle.sq_ops.specs.Aggregates.{group_row, rows_of_group, sums_of}
-use Rattle.sq_ops.specs.Bigint.{first_not_bigint, is_bigint}
+use Rattle.sq_expr.specs.Bigint.{first_not_bigint, is_bigint}
 
 abbrev keyed : List Value → ℤ → List Value × ℤ
 keyed c n = (c, n)

@@ -3,7 +3,7 @@ ghost use Rattle.std.specs.Prelude.{◌≡◌, ◌^◌, ◌<◌, ◌≤ℤ◌, �
 ghost use Rattle.sq_algebra.specs.Operators.{IsNonNegative};
 ghost use Rattle.sq_agg.specs.ByKey.{places_of};
 ghost use Rattle.sq_algebra.specs.ZSet.{entries, total};
-ghost use Rattle.sq_ops.specs.Bigint.{first_not_bigint};
+ghost use Rattle.sq_expr.specs.Bigint.{first_not_bigint};
 ghost use Rattle.sq_ops.specs.Indexes.{entries_at, with_key};
 ghost use Rattle.std.specs.BTreeMap.{keys};
 ghost use Rattle.std.specs.List.{All};

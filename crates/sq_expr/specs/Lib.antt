@@ -8,3 +8,5 @@ pub mod Wrapping
 pub mod Items
 pub mod Same
 pub mod Shifted
+pub mod Bigint
+pub mod Extremes

@@ -87,7 +87,7 @@ pub fn typed_values()
 
 /// A column that is there suits, and a conjunction suits if its members do. What suits some columns suits
 /// them with more behind them, and without those that it does not name.
-#[tactic(auto, using(crate::proofs::Kept::column_suits, crate::proofs::Kept::members_suit, crate::proofs::Kept::conjunction_suits, crate::proofs::Kept::suits_more, crate::proofs::Kept::suits_fewer, crate::proofs::Kept::suits_cond_more, crate::proofs::Kept::suits_cond_fewer))]
+#[tactic(auto, using(crate::proofs::Kept::column_suits, crate::proofs::Kept::members_suit, crate::proofs::Kept::conjunction_suits, crate::proofs::Kept::suits_fewer, crate::proofs::Kept::suits_cond_fewer))]
 pub fn suiting()
     ensures column { (kinds : List ColumnKind) (n : ℕ) (k : ColumnKind) → slice_get kinds n ≡ Some k → Suits kinds (expr.Column n) }
     ensures members { (kinds : List ColumnKind) (c : Condition) → SuitsCond kinds c → AllByRecursion (SuitsCond kinds) (members c) }

@@ -15,7 +15,7 @@ impl Expr {
     /// On a row behind `by` other values it reads what this one reads on the row alone (`laws::shifts`). The
     /// raised numbers must have 32 bits. `NoMemory` if memory runs out.
     #[cycle(shift)]
-    #[tactic(auto, using(crate::proofs::ShiftSteps::column_shifted, crate::proofs::ShiftSteps::number_shifted, crate::proofs::ShiftSteps::neg_shifted, crate::proofs::ShiftSteps::sum_shifted, crate::proofs::ShiftSteps::product_shifted))]
+    #[tactic(auto, using(crate::proofs::ShiftSteps::column_shifted, crate::proofs::ShiftSteps::neg_shifted, crate::proofs::ShiftSteps::sum_shifted, crate::proofs::ShiftSteps::product_shifted))]
     pub fn shifted(&self, alloc: Global, by: u32) -> Result<Expr, NoMemory>
         requires room { HasRoom by (columns self.now) }
         ensures shifted { IfOk result (λ e. e ≡ shifted_by by self.now) }

@@ -14,7 +14,8 @@ use Rattle.sq_value.specs.declared.value.Value.{Value}
 use Rattle.sq_value.specs.declared.value.Value.TheVariants.{Null, Int, Text}
 use Rattle.sq_typed.specs.Queries.{is_outside}
 use Rattle.sq_expr.specs.Meaning.{sum_of}
-use Rattle.sq_typed.specs.Blocks.{arguments, call_value, least_or_null, greatest_or_null, sum_or_null}
+use Rattle.sq_typed.specs.Blocks.{arguments, call_value, sum_or_null}
+use Rattle.sq_expr.specs.Extremes.{greatest_or_null, least_or_null}
 use Rattle.sq_typed.specs.From.{Row}
 use Rattle.sq_lists.specs.Stops.{stop_of}
 use Rattle.sq_lists.specs.Values.{extreme, of_arguments}

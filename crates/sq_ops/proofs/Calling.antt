@@ -8,7 +8,7 @@ use Rattle.sq_value.specs.Order.{row_cmp}
 use Rattle.sq_algebra.specs.ZSet.{ZSet}
 use Rattle.sq_ops.specs.declared.aggregate.Call.{Call}
 use Rattle.sq_ops.specs.Aggregates.{call_value, sums_of, tested_sum}
-use Rattle.sq_ops.specs.Bigint.{first_not_bigint}
+use Rattle.sq_expr.specs.Bigint.{first_not_bigint}
 use Rattle.sq_ops.proofs.Lists.{split_here, take_more}
 use Rattle.sq_ops.proofs.Ranges.{first_here, first_later}
 

@@ -13,7 +13,7 @@ use Rattle.sq_expr.specs.declared.value.ItemFault.TheVariants as item
 use Rattle.sq_expr.specs.Items.{HasCause, IsStorable}
 use Rattle.sq_expr.specs.Meaning.{num}
 use Rattle.sq_ops.specs.declared.fault.OpFault.TheVariants as op
-use Rattle.sq_ops.specs.Bigint.{first_not_bigint}
+use Rattle.sq_expr.specs.Bigint.{first_not_bigint}
 use Rattle.sq_ops.specs.Faults.{fault_of}
 use Rattle.sq_ops.specs.Rows.{items_of, number_in, numbers_of}
 use Rattle.sq_ops.proofs.Lists.{split_here, take_more}

@@ -13,7 +13,7 @@ use Rattle.sq_algebra.specs.Listed.{in_order}
 use Rattle.sq_algebra.proofs.GroupingLemmas.{fold-in_order}
 use Rattle.sq_expr.specs.Meaning.{is_null}
 use Rattle.sq_ops.specs.Aggregates.{greater, lesser}
-use Rattle.sq_ops.specs.Lists.{greatest_of, least_of}
+use Rattle.sq_expr.specs.Extremes.{greatest_or_null, least_or_null}
 
 -- ---- the lesser of two keys forgets order and repeats
 abbrev pick : {K : Type 0} → (K → K → Ordering) → K → K → K
@@ -131,7 +131,7 @@ least_from a (Null ∷ xs) h = least_from a xs h
 least_from a (Int n ∷ xs) h = least_step a (Int n) xs h refl (λ b k. least_from b xs k)
 least_from a (Text t ∷ xs) h = least_step a (Text t) xs h refl (λ b k. least_from b xs k)
 
-least_is : (xs : List Value) → fold lesser Null xs ≡ least_of (filter (λ x. not (is_null x)) xs)
+least_is : (xs : List Value) → fold lesser Null xs ≡ least_or_null (filter (λ x. not (is_null x)) xs)
 least_is [] = refl
 least_is (Null ∷ xs) = least_is xs
 least_is (Int n ∷ xs) = least_from (Int n) xs refl
@@ -148,7 +148,7 @@ greatest_from a (Null ∷ xs) = ap (λ b. fold greater b xs) (kept a) ∙ greate
 greatest_from a (Int n ∷ xs) = greatest_from (greater a (Int n)) xs
 greatest_from a (Text t ∷ xs) = greatest_from (greater a (Text t)) xs
 
-greatest_is : (xs : List Value) → fold greater Null xs ≡ greatest_of (filter (λ x. not (is_null x)) xs)
+greatest_is : (xs : List Value) → fold greater Null xs ≡ greatest_or_null (filter (λ x. not (is_null x)) xs)
 greatest_is [] = refl
 greatest_is (Null ∷ xs) = greatest_is xs
 greatest_is (Int n ∷ xs) = greatest_from (Int n) xs
@@ -156,8 +156,8 @@ greatest_is (Text t ∷ xs) = greatest_from (Text t) xs
 
 -- ---- over the rows of a list, each once, and over the list as it stands
 module _ (f : List Value → Value) (rows : List (List Value)) where
-  pub least_of_rows : fold lesser Null (map f (in_order row_cmp rows)) ≡ least_of (filter (λ x. not (is_null x)) (map f rows))
+  pub least_of_rows : fold lesser Null (map f (in_order row_cmp rows)) ≡ least_or_null (filter (λ x. not (is_null x)) (map f rows))
   least_of_rows = picked nulls_last nulls_last-total nulls_last-antisymmetric row_cmp row_cmp-antisymmetric lesser lesser_is f Null rows ∙ least_is (map f rows)
 
-  pub greatest_of_rows : fold greater Null (map f (in_order row_cmp rows)) ≡ greatest_of (filter (λ x. not (is_null x)) (map f rows))
+  pub greatest_of_rows : fold greater Null (map f (in_order row_cmp rows)) ≡ greatest_or_null (filter (λ x. not (is_null x)) (map f rows))
   greatest_of_rows = picked (flip_args value_cmp) (back_total value_cmp-total) flipped-antisymmetric row_cmp row_cmp-antisymmetric greater greater_is f Null rows ∙ greatest_is (map f rows)

@@ -21,7 +21,7 @@ use Rattle.sq_zset.specs.Collecting.{mass_of}
 use Rattle.sq_zset.specs.GroupLaws.{integers_are_abelian}
 use Rattle.sq_ops.specs.declared.aggregate.Call.{Call}
 use Rattle.sq_ops.specs.Aggregates.{number_at, number_or_zero, sums_of, tested_sum}
-use Rattle.sq_ops.specs.Bigint.{first_not_bigint}
+use Rattle.sq_expr.specs.Bigint.{first_not_bigint}
 use Rattle.sq_ops.specs.Fits.{FitsRows}
 use Rattle.sq_ops.specs.Measures.{HasBigints, IsMeasurable}
 use Rattle.sq_ops.specs.Wholes.{has_no_values}

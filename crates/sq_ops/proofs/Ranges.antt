@@ -12,7 +12,7 @@ use Rattle.sq_value.specs.declared.value.Value.TheVariants.{Null, Int, Text}
 use Rattle.sq_expr.specs.declared.expr.Expr.{Expr}
 use Rattle.sq_expr.specs.Items.{IsStorable}
 use Rattle.sq_expr.proofs.Lists.{all_flat, all_flattened, all_weaker}
-use Rattle.sq_ops.specs.Bigint.{is_bigint, first_not_bigint}
+use Rattle.sq_expr.specs.Bigint.{is_bigint, first_not_bigint}
 use Rattle.sq_ops.specs.Rows.{items_of, number_in, numbers_of}
 
 fits_from_test : (n : ℤ) → is_bigint n ≡ true → FitsSigned w64 n

@@ -21,7 +21,7 @@ use Rattle.sq_expr.specs.declared.expr.Kind.TheVariants as kind
 use Rattle.sq_expr.specs.Meaning.{column_of, is_null}
 use Rattle.sq_ops.specs.declared.aggregate.AggSpec.{AggSpec}
 use Rattle.sq_ops.specs.declared.aggregate.Call.{Call}
-use Rattle.sq_ops.specs.Bigint.{is_bigint}
+use Rattle.sq_expr.specs.Bigint.{is_bigint}
 use Rattle.sq_ops.specs.Joins.{columns_of}
 use Rattle.sq_ops.specs.Wholes.{has_no_values}
 

@@ -8,7 +8,7 @@ use Rattle.sq_algebra.specs.Groups.{IsAdditive, z_sets}
 use Rattle.sq_algebra.specs.Operators.{image}
 use Rattle.sq_algebra.specs.ZSet.{ZSet, entries}
 use Rattle.sq_algebra.proofs.OperatorLemmas.{image-IsAdditive}
-use Rattle.sq_ops.specs.Bigint.{first_not_bigint}
+use Rattle.sq_expr.specs.Bigint.{first_not_bigint}
 
 -- of the numbers that are tested of the rows of a Z-set, row by row, the first outside the range of BIGINT
 abbrev pub first_value_outside : (List Value → List ℤ) → ZSet (List Value) row_cmp → Option ℤ

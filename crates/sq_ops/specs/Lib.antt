@@ -1,4 +1,3 @@
-pub mod Bigint
 pub mod Faults
 pub mod Fits
 pub mod Rows

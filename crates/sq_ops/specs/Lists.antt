@@ -1,6 +1,5 @@
 -- Joins and aggregates of lists of rows, each row as often as it stands there.
 --     values_of column rows         the values in a column that are not NULL
---     least_of xs, greatest_of xs   the least and the greatest of some values, NULL of none
 --     list_value f column rows      the value of a call over the rows of a group
 --     row_of_list calls c rows      the row of the group with the key c.     group_of_list calls c rows     the same as a list, empty for no rows
 --     rows_of_groups spec rows      the rows of all groups, in the order of their first appearance
@@ -11,12 +10,12 @@
 --     joined_pairs op rows others   the Z-set of the rows that a join gives for all pairs
 --     joined_lists left right pair rows others     the join of the Z-sets of two lists
 --     joined_in_loops left right pair rows others     what nested loops over two lists give for rows with the same key
-use Rattle.std.specs.Prelude.{◌≡◌, ℕ, Bool, false, not, ◌&&◌, if◌then◌else◌, List, [], ◌∷◌, ◌++◌, map, fold, length, pos, Option, Some, None}
+use Rattle.std.specs.Prelude.{◌≡◌, ℕ, Bool, false, not, ◌&&◌, if◌then◌else◌, List, [], ◌∷◌, ◌++◌, map, length, pos, Option, Some, None}
 use Rattle.std.specs.List.{All, filter, flat_map}
-use Rattle.std.specs.Ordering.{is_eq, is_lt}
+use Rattle.std.specs.Ordering.{is_eq}
 use Rattle.sq_value.specs.declared.value.Value.{Value}
 use Rattle.sq_value.specs.declared.value.Value.TheVariants.{Null, Int}
-use Rattle.sq_value.specs.Order.{row_cmp, value_cmp}
+use Rattle.sq_value.specs.Order.{row_cmp}
 use Rattle.sq_algebra.specs.Groups.{integers, sum_over}
 use Rattle.sq_algebra.specs.Keyed.{groups_by, members_at}
 use Rattle.sq_algebra.specs.Listed.{count}
@@ -25,6 +24,7 @@ use Rattle.sq_algebra.specs.ZSet.{ZSet, of_list}
 use Rattle.sq_zset.specs.Loops.{nested_loops}
 use Rattle.sq_expr.specs.declared.expr.Func.{Func}
 use Rattle.sq_expr.specs.declared.expr.Func.TheVariants.{CountAll, Count, Sum, Min, Max}
+use Rattle.sq_expr.specs.Extremes.{greatest_or_null, least_or_null}
 use Rattle.sq_expr.specs.Meaning.{column_of, is_null}
 use Rattle.sq_ops.specs.declared.aggregate.AggSpec.{AggSpec}
 use Rattle.sq_ops.specs.declared.aggregate.Call.{Call}
@@ -39,20 +39,12 @@ use Rattle.sq_ops.specs.Wholes.{has_no_values}
 abbrev pub values_of : ℕ → List (List Value) → List Value
 values_of column rows = filter (λ x. not (is_null x)) (map (λ row. column_of row column) rows)
 
-abbrev pub least_of : List Value → Value
-least_of [] = Null
-least_of (x ∷ xs) = fold (λ a b. if is_lt (value_cmp b a) then b else a) x xs
-
-abbrev pub greatest_of : List Value → Value
-greatest_of [] = Null
-greatest_of (x ∷ xs) = fold (λ a b. if is_lt (value_cmp a b) then b else a) x xs
-
 abbrev pub list_value : Func → ℕ → List (List Value) → Value
 list_value CountAll column rows = Int (pos (length rows))
 list_value Count column rows = Int (pos (length (filter (has_value column) rows)))
 list_value Sum column rows = if has_no_values (filter (has_value column) rows) then Null else Int (sum_over integers (number_at column) rows)
-list_value Min column rows = least_of (values_of column rows)
-list_value Max column rows = greatest_of (values_of column rows)
+list_value Min column rows = least_or_null (values_of column rows)
+list_value Max column rows = greatest_or_null (values_of column rows)
 
 abbrev pub row_of_list : List Call → List Value → List (List Value) → List Value
 row_of_list calls c rows = c ++ map (λ call. list_value call.func call.arg rows) calls

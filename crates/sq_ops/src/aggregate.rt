@@ -5,7 +5,7 @@ ghost use Rattle.sq_algebra.specs.Operators.{IsNonNegative};
 ghost use Rattle.sq_algebra.specs.ZSet.{entries, total};
 ghost use Rattle.sq_ops.specs.Aggregates.{SuitsSpec, call_suits, call_value, group_row, is_numeric, spec_suits, sums_of, tested_sum};
 ghost use Rattle.sq_expr.specs.declared.expr.Func.TheVariants.{Sum};
-ghost use Rattle.sq_ops.specs.Bigint.{first_not_bigint};
+ghost use Rattle.sq_expr.specs.Bigint.{first_not_bigint};
 ghost use Rattle.sq_ops.specs.Fits.{FitsRows};
 ghost use Rattle.sq_ops.specs.Measures.{IsMeasurable};
 ghost use Rattle.sq_ops.specs.Wholes.{has_no_values};

@@ -9,7 +9,7 @@ ghost use Rattle.sq_expr.specs.declared.expr.Expr.{Expr as Expression};
 ghost use Rattle.sq_expr.specs.declared.expr.Kind.{Kind as ColumnKind};
 ghost use Rattle.sq_expr.specs.Items.{IsStorable};
 ghost use Rattle.sq_expr.specs.Kinds.{AreOfKinds};
-ghost use Rattle.sq_ops.specs.Bigint.{first_not_bigint};
+ghost use Rattle.sq_expr.specs.Bigint.{first_not_bigint};
 ghost use Rattle.sq_ops.specs.Extensions.{first_value_outside};
 ghost use Rattle.sq_ops.specs.Fits.{FitsRows};
 ghost use Rattle.sq_ops.specs.Rows.{holds, items_of, numbers_of, padded};

@@ -2,7 +2,7 @@
 ghost use Rattle.std.specs.Prelude.{◌≡◌, ◌↔◌, ◌++◌, IsTrue, ℤ, List, Some, None, IfOk, OnOk, OnErr};
 ghost use Rattle.std.specs.List.{AllByRecursion};
 ghost use Rattle.sq_expr.specs.Fits.{Fits};
-ghost use Rattle.sq_ops.specs.Bigint.{first_not_bigint};
+ghost use Rattle.sq_expr.specs.Bigint.{first_not_bigint};
 ghost use Rattle.sq_ops.specs.Fits.{FitsRow};
 ghost use Rattle.sq_ops.specs.Rows.{items_of, numbers_of, padded};
 

@@ -3,7 +3,7 @@ ghost use Rattle.std.specs.Prelude.{◌≡◌, ◌↔◌, ◌^◌, IsTrue, ◌�
 ghost use Rattle.std.specs.List.{All};
 ghost use Rattle.sq_algebra.specs.Operators.{IsNonNegative, distinct};
 ghost use Rattle.sq_algebra.specs.ZSet.{entries, total};
-ghost use Rattle.sq_ops.specs.Bigint.{first_not_bigint};
+ghost use Rattle.sq_expr.specs.Bigint.{first_not_bigint};
 ghost use Rattle.sq_ops.specs.Fits.{FitsRow, FitsRows};
 ghost use Rattle.sq_value.specs.declared.value.Value.{Value as Datum};
 ghost use Rattle.sq_zset.specs.Range.{IsInRange};

@@ -29,10 +29,11 @@ use Rattle.sq_typed.specs.declared.query.BlockCall.{BlockCall}
 use Rattle.sq_typed.specs.declared.query.FromJoin.{FromJoin}
 use Rattle.sq_typed.specs.declared.query.FromJoin.TheVariants.{Comma, Inner, Left}
 use Rattle.sq_typed.specs.declared.query.Grouping.{Grouping}
-use Rattle.sq_typed.specs.Blocks.{present, sum_or_null, least_or_null, greatest_or_null, arguments, call_value, is_sum, columns_of, groups, group_row, item_rows, selected, without_repeats, tested_calls}
+use Rattle.sq_typed.specs.Blocks.{present, sum_or_null, arguments, call_value, is_sum, columns_of, groups, group_row, item_rows, selected, without_repeats, tested_calls}
 use Rattle.sq_typed.specs.Fit.{grouped_kinds, AreAllOfKinds, GivesKinds, SourceGivesKinds, Pairwise}
 use Rattle.sq_typed.specs.From.{Row, Answer, Source, all_hold, members_of, matches, or_padded, inner, joined_by, from, kept}
 use Rattle.sq_typed.specs.Numbered.{kind_step, kind_of, call_kind}
+use Rattle.sq_expr.specs.Extremes.{greatest_or_null, least_or_null}
 use Rattle.sq_typed.specs.Queries.{is_outside}
 use Rattle.sq_typed.proofs.AnswerLemmas.{all_first}
 use Rattle.sq_typed.proofs.Tests.{every, all_filter}

@@ -1,15 +1,16 @@
 -- A block over lists of rows: grouping, aggregates, select items, repeats.
-use Rattle.std.specs.Prelude.{ℕ, pos, Bool, true, false, not, if◌then◌else◌, List, [], ◌∷◌, ◌++◌, map, fold, length, Option, Some, None}
+use Rattle.std.specs.Prelude.{ℕ, pos, Bool, true, false, not, if◌then◌else◌, List, [], ◌∷◌, ◌++◌, map, length, Option, Some, None}
 use Rattle.std.specs.List.{filter, flat_map}
-use Rattle.std.specs.Ordering.{is_eq, is_lt}
+use Rattle.std.specs.Ordering.{is_eq}
 use Rattle.sq_value.specs.declared.value.Value.{Value}
 use Rattle.sq_value.specs.declared.value.Value.TheVariants.{Null, Int}
-use Rattle.sq_value.specs.Order.{value_cmp, row_cmp}
+use Rattle.sq_value.specs.Order.{row_cmp}
 use Rattle.sq_algebra.specs.Listed.{first_of_each}
 use Rattle.sq_expr.specs.declared.cond.Cond.{Cond}
 use Rattle.sq_expr.specs.declared.expr.Expr.{Expr}
 use Rattle.sq_expr.specs.declared.expr.Func.{Func}
 use Rattle.sq_expr.specs.declared.expr.Func.TheVariants.{CountAll, Count, Sum, Min, Max}
+use Rattle.sq_expr.specs.Extremes.{greatest_or_null, least_or_null}
 use Rattle.sq_expr.specs.Meaning.{num, column_of, sum_of, is_null}
 use Rattle.sq_typed.specs.declared.query.Grouping.{Grouping}
 use Rattle.sq_typed.specs.declared.query.BlockCall.{BlockCall}
@@ -21,18 +22,10 @@ use Rattle.sq_typed.specs.From.{Row, Answer, Source, all_hold, members_of, kept,
 abbrev pub present : List Value → List Value
 present xs = filter (λ x. not (is_null x)) xs
 
--- the sum of some values, the least and the greatest of them; NULL of none
+-- the sum of some values, NULL of none
 abbrev pub sum_or_null : List Value → Value
 sum_or_null [] = Null
 sum_or_null (x ∷ xs) = sum_of (x ∷ xs)
-
-abbrev pub least_or_null : List Value → Value
-least_or_null [] = Null
-least_or_null (x ∷ xs) = fold (λ a b. if is_lt (value_cmp b a) then b else a) x xs
-
-abbrev pub greatest_or_null : List Value → Value
-greatest_or_null [] = Null
-greatest_or_null (x ∷ xs) = fold (λ a b. if is_lt (value_cmp a b) then b else a) x xs
 
 -- the argument of a call on each of some rows
 abbrev pub arguments : Option Expr → List Row → List Value

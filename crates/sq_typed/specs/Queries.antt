@@ -1,6 +1,6 @@
 -- A query over lists of rows: set operations from left to right, and queries in FROM.
 --     Contents        the rows of a relation.       answer relations q        what a query gives over the relations before it
-use Rattle.std.specs.Prelude.{ℕ, ◌^◌, ◌||◌, nat_lt, Bool, false, not, List, [], ◌∷◌, ◌++◌, fold, length, pos, negsuc, get_or}
+use Rattle.std.specs.Prelude.{ℕ, ◌^◌, ◌||◌, nat_lt, Bool, false, not, List, [], ◌∷◌, ◌++◌, fold, length, get_or}
 use Rattle.std.specs.List.{flat_map, list_any}
 use Rattle.sq_value.specs.declared.value.Value.{Value}
 use Rattle.sq_value.specs.declared.value.Value.TheVariants.{Null, Int, Text}
@@ -8,6 +8,7 @@ use Rattle.sq_value.specs.Order.{row_cmp}
 use Rattle.sq_algebra.specs.Listed.{first_of_each, among, without}
 use Rattle.sq_ast.specs.declared.query.SetOp.{SetOp}
 use Rattle.sq_ast.specs.declared.query.SetOp.TheVariants.{UnionAll, Union, Except}
+use Rattle.sq_expr.specs.Bigint.{is_bigint}
 use Rattle.sq_typed.specs.declared.query.Query.{Query}
 use Rattle.sq_typed.specs.declared.query.FromItem.{FromItem}
 use Rattle.sq_typed.specs.declared.query.SetStep.{SetStep}
@@ -99,8 +100,7 @@ module _ (relations : List Contents) where
 -- whether a value is a number outside BIGINT
 abbrev pub is_outside : Value → Bool
 is_outside Null = false
-is_outside (Int (pos n)) = not (nat_lt n (2 ^ 63))
-is_outside (Int (negsuc n)) = not (nat_lt n (2 ^ 63))
+is_outside (Int n) = not (is_bigint n)
 is_outside (Text t) = false
 
 -- whether a place lists more rows than 2^61

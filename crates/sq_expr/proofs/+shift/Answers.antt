@@ -2,7 +2,7 @@ use Rattle.std.proofs.Common.{rules}
 use Rattle.std.proofs.Math.Facts.{Fits-of_lt}
 use Rattle.std.specs.Int.{w32}
 use Rattle.sq_expr.specs.declared.expr.Expr.{the_lemmas}
-use Rattle.sq_expr.proofs.ShiftSteps.{column_room, neg_room, sum_room, product_room, text_shifted}
+use Rattle.sq_expr.proofs.ShiftSteps.{column_room, neg_room, sum_room, product_room, number_shifted, text_shifted}
 use Rattle.sq_expr.proofs.+shift.Goals as goal
 
 pub expr::Expr::shifted-overflow_add-result : goal.expr::Expr::shifted-overflow_add-result
@@ -21,3 +21,6 @@ expr::Expr::shifted-shifted_factors-requires t c = (search (rules, the_lemmas), 
 pub expr::Expr::shifted-returns-in_ok-text-in-Text :
     goal.expr::Expr::shifted-returns-in_ok-text-in-Text
 expr::Expr::shifted-returns-in_ok-text-in-Text t c = record { shifted = text_shifted c.args.by c.args.self.now c.in-Text.text c.in_ok-text-in-Text.text c.in-Text.is c.in_ok-text-in-Text.ensures.equal }
+
+pub expr::Expr::shifted-returns-in-Number : goal.expr::Expr::shifted-returns-in-Number
+expr::Expr::shifted-returns-in-Number t c = record { shifted = number_shifted c.args.by c.args.self.now c.in-Number.number c.in-Number.is }
