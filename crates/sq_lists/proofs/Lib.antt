@@ -2,12 +2,10 @@ pub mod Loops
 pub mod Repeats
 pub mod Values
 pub mod Groups
-pub mod Latest
 pub mod Stages
 pub mod Standings
 pub mod Blocks
 pub mod ChainFaults
 pub mod SourceLists
 pub mod QueryLists
-pub mod CheckedFits
 pub mod ViewWalk

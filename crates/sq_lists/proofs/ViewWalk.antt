@@ -15,16 +15,15 @@ use Rattle.sq_typed.specs.From.{Answer}
 use Rattle.sq_typed.specs.Laws.{by_kind}
 use Rattle.sq_typed.specs.Queries.{Contents, answer, has_range_fault}
 use Rattle.sq_typed.specs.Tables.{Tables}
-use Rattle.sq_typed.specs.Views.{Meant, Standing, first_answer, first_rows, standing, verdict, views, with_relation, with_table, with_view}
+use Rattle.sq_typed.specs.Views.{Meant, Standing, first_answer, first_rows, shown, standing, verdict, views, with_relation, with_table, with_view}
 use Rattle.sq_typed.proofs.FitQueries.{rows_of_query}
 use Rattle.sq_typed.proofs.FitRows.{length_mapped}
 use Rattle.sq_lists.specs.Answers.{CanAnswer, Lists}
 use Rattle.sq_lists.specs.Listings.{contents_of}
-use Rattle.sq_lists.specs.Shown.{shown}
 use Rattle.sq_lists.specs.Walks.{IsView, Walk}
 use Rattle.sq_lists.specs.declared.listing.Listing.{Listing}
 use Rattle.sq_lists.specs.declared.views.SoFar.{SoFar}
-use Rattle.sq_lists.proofs.CheckedFits.{checked_fits}
+use Rattle.sq_typed.proofs.CheckedFits.{checked_fits}
 use Rattle.sq_lists.proofs.Loops.{list_any-append, map-append}
 use Rattle.sq_lists.proofs.QueryLists.{drop_here, drop_past, pairwise_more}
 

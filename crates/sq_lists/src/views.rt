@@ -3,11 +3,10 @@ ghost use Rattle.std.specs.Prelude.{◌≡◌, ◌<◌, ◌+◌, ◌^◌, ℕ, E
 ghost use Rattle.sq_catalog.specs.declared.relation.RelationKind.TheVariants as kind;
 ghost use Rattle.sq_lists.specs.Answers.{CanAnswer, Lists};
 ghost use Rattle.sq_lists.specs.Listings.{contents_of};
-ghost use Rattle.sq_lists.specs.Shown.{shown};
 ghost use Rattle.sq_lists.specs.Walks.{IsView, Walk};
 ghost use Rattle.sq_typed.specs.Fit.{TablesAreOfKinds};
 ghost use Rattle.sq_typed.specs.Queries.{answer, has_range_fault};
-ghost use Rattle.sq_typed.specs.Views.{first_rows, verdict};
+ghost use Rattle.sq_typed.specs.Views.{first_rows, shown, verdict};
 
 use crate::query::list_query;
 use crate::sets::copies;

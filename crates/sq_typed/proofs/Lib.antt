@@ -24,3 +24,5 @@ pub mod FitResolved
 pub mod FitStatements
 pub mod WrittenLemmas
 pub mod FitExampleLemmas
+pub mod CheckedFits
+pub mod Latest

@@ -1,7 +1,7 @@
 -- The views of a program over its tables.
 --     Meant        a catalogue and the query of each view.       views p tables      what each view gives
 --     verdict      the first view that cannot be shown
-use Rattle.std.specs.Prelude.{ℕ, List, [], ◌∷◌, ◌++◌, fold, length, drop, position, Option, Some, None}
+use Rattle.std.specs.Prelude.{ℕ, List, [], ◌∷◌, ◌++◌, fold, length, map, drop, position, Option, Some, None}
 use Rattle.std.specs.List.{slice_get}
 use Rattle.sq_catalog.specs.declared.relation.Relation.{Relation}
 use Rattle.sq_catalog.specs.declared.relation.RelationKind.{RelationKind}
@@ -59,6 +59,10 @@ standing p tables = fold (λ s r. with_relation r.kind (length r.columns) s) (re
 -- what each view gives over the tables, in order of creation
 unfoldable pub views : Meant → Tables → List Answer
 views p tables = (standing p tables).given
+
+-- the rows of each view over the tables, in order of creation
+abbrev pub shown : Meant → Tables → List (List Row)
+shown p tables = map (λ a. a.rows) (views p tables)
 
 -- the rows of a view
 abbrev pub view_rows : Meant → Tables → ℕ → List Row

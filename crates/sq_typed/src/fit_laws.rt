@@ -13,6 +13,7 @@ ghost use Rattle.sq_expr.specs.Fits.{Suits, SuitsCond};
 ghost use Rattle.sq_typed.specs.declared.query.Block.{Block as Selected, out-Block};
 ghost use Rattle.sq_typed.specs.declared.query.Query.TheVariants as query;
 ghost use Rattle.sq_typed.specs.Blocks.{item_rows, selected};
+ghost use Rattle.sq_typed.specs.Checked.{IsChecked};
 ghost use Rattle.sq_typed.specs.Faults.{refused};
 ghost use Rattle.sq_typed.specs.Fit.{AreAllOfKinds, ArgumentSuits, CallsAreInRange, Fits, GivesItsKinds, HoldsKinds, IsGroupedBy, ItemsAreInRange, Pairwise, ProgramFits, SourceGivesKinds, ViewsAreOfKinds};
 ghost use Rattle.sq_typed.specs.Fit.{group_kinds, grouped_kinds, item_row_kinds, kinded_source, kinds_given, source_kinds, sources_fit, suits, suits_cond};
@@ -88,6 +89,12 @@ pub fn accepted_statements_fit()
     ensures widths { (tokens : List SpelledToken) (statements : List StatementTree) → Spells tokens statements → refused statements ≡ Nothing → QueriesFit [] (program_of statements).queries (program_of statements).catalog }
     ensures rows { (tokens : List SpelledToken) (statements : List StatementTree) → Spells tokens statements → refused statements ≡ Nothing → (tables : Tables) →
         ViewsAreOfKinds (program_of statements) tables }
+{}
+
+/// The queries of a checked program fit.
+#[tactic(auto, using(crate::proofs::CheckedFits::checked_fits))]
+pub fn checked_programs_fit()
+    ensures { (p : Meant) → IsChecked p → ProgramFits [] p.queries p.catalog }
 {}
 
 /// Small queries that fit a table of an `INTEGER` and a text, or don't, as `specs/FitExamples.antt` writes them.
