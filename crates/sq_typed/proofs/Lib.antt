@@ -26,3 +26,4 @@ pub mod WrittenLemmas
 pub mod FitExampleLemmas
 pub mod CheckedFits
 pub mod Latest
+pub mod Members
