@@ -1,4 +1,5 @@
 pub mod Listed
+pub mod Orders
 pub mod ZSet
 pub mod Groups
 pub mod Operators

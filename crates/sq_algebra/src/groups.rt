@@ -1,8 +1,8 @@
 //! Abelian groups: what follows from their laws, and the whole numbers and the Z-sets as groups.
 
 ghost use Rattle.std.specs.Prelude.{◌≡◌, ℤ, pos, ◌+ℤ◌, ◌*ℤ◌, neg_ℤ, List, ◌++◌, map, Bool, if◌then◌else◌};
-ghost use Rattle.std.specs.FinMap.{IsAntisymmetric};
 ghost use Rattle.std.specs.List.{All, filter, flat_map};
+ghost use Rattle.sq_algebra.specs.Orders.{IsOrder};
 ghost use Rattle.sq_algebra.specs.Groups.{AbelianGroup, IsAbelian, IsAdditive, pairs_of, functions_to, integers, z_sets, times, sum_over, minus};
 
 /// The whole numbers are an abelian group, and the multiple of one by another is their product.
@@ -13,7 +13,7 @@ pub fn integers_are_a_group()
 
 /// The Z-sets over keys of one type are an abelian group.
 pub fn z_sets_are_a_group<K: Ord>()
-    ensures { IsAntisymmetric K.cmp → IsAbelian (z_sets K.cmp) }
+    ensures { IsOrder K.cmp → IsAbelian (z_sets K.cmp) }
 {}
 
 /// The pairs of members of two groups, and the functions into a group, are groups.

@@ -1,9 +1,9 @@
 //! Z-sets parted by a key of their keys.
 
 ghost use Rattle.std.specs.Prelude.{◌≡◌, pos, Option, Some, List, [], Bool, false, ◌⊎◌, int_lt, if◌then◌else◌};
-ghost use Rattle.std.specs.FinMap.{IsAntisymmetric};
 ghost use Rattle.std.specs.Ordering.{is_eq};
 ghost use Rattle.std.specs.declared.cmp.Ordering.{Ordering};
+ghost use Rattle.sq_algebra.specs.Orders.{IsOrder, TwoOrders, ThreeOrders, FourOrders};
 ghost use Rattle.sq_algebra.specs.Listed.{count};
 ghost use Rattle.sq_algebra.specs.ZSet.{ZSet, zero, single, weight, plus, minus};
 ghost use Rattle.sq_algebra.specs.Groups.{AbelianGroup, IsAbelian, IsAdditive, z_sets, minus as minus_in, sum_over};
@@ -12,10 +12,10 @@ ghost use Rattle.sq_algebra.specs.Keyed.{at_key, keys_of, CoversOnce, by_key, at
 
 /// The part of one key: its weights, that taking it is additive, and the part of a part.
 pub fn parts_are_linear<C: Ord, K: Ord, D>()
-    ensures weights { IsAntisymmetric C.cmp → IsAntisymmetric K.cmp → (key : K → C) (k : K) (c : C) (z : ZSet K K.cmp) → weight k (at_key C.cmp key c z) ≡ (if is_eq (C.cmp c (key k)) then weight k z else pos 0) }
-    ensures additive { IsAntisymmetric C.cmp → IsAntisymmetric K.cmp → (key : K → C) (c : C) → IsAdditive (z_sets K.cmp) (z_sets K.cmp) (at_key C.cmp key c) }
-    ensures none { IsAntisymmetric C.cmp → IsAntisymmetric K.cmp → (key : K → C) (c : C) → at_key C.cmp key c (zero K.cmp) ≡ zero K.cmp }
-    ensures part { IsAntisymmetric C.cmp → IsAntisymmetric K.cmp → (key : K → C) (P : D → D → Ordering) (place : K → D) (inner : C → D)
+    ensures weights { TwoOrders C.cmp K.cmp → (key : K → C) (k : K) (c : C) (z : ZSet K K.cmp) → weight k (at_key C.cmp key c z) ≡ (if is_eq (C.cmp c (key k)) then weight k z else pos 0) }
+    ensures additive { TwoOrders C.cmp K.cmp → (key : K → C) (c : C) → IsAdditive (z_sets K.cmp) (z_sets K.cmp) (at_key C.cmp key c) }
+    ensures none { TwoOrders C.cmp K.cmp → (key : K → C) (c : C) → at_key C.cmp key c (zero K.cmp) ≡ zero K.cmp }
+    ensures part { TwoOrders C.cmp K.cmp → (key : K → C) (P : D → D → Ordering) (place : K → D) (inner : C → D)
         → ((k : K) → place k ≡ inner (key k)) → (c : C) (d : D) (z : ZSet K K.cmp) → at_key C.cmp key c (at_key P place d z)
         ≡ (if is_eq (P d (inner c)) then at_key C.cmp key c z else zero K.cmp) }
 {}
@@ -24,21 +24,21 @@ pub fn parts_are_linear<C: Ord, K: Ord, D>()
 /// the list once, and then covers what is left of it after a test. The keys that a Z-set has are those with a part that
 /// is not empty, and each stands in every cover.
 pub fn covers_are_covers<C: Ord, K: Ord>()
-    ensures own_keys { IsAntisymmetric C.cmp → IsAntisymmetric K.cmp → (key : K → C) (z : ZSet K K.cmp) → CoversOnce C.cmp key (keys_of C.cmp key z) z }
-    ensures by_weight { IsAntisymmetric C.cmp → IsAntisymmetric K.cmp → (key : K → C) (cs : List C) (z : ZSet K K.cmp) → CoversOnce C.cmp key cs z → (k : K) → (weight k z ≡ pos 0) ⊎ (count C.cmp (key k) cs ≡ 1) }
-    ensures from_weights { IsAntisymmetric C.cmp → IsAntisymmetric K.cmp → (key : K → C) (cs : List C) (z : ZSet K K.cmp) → ((k : K) → (weight k z ≡ pos 0) ⊎ (count C.cmp (key k) cs ≡ 1)) → CoversOnce C.cmp key cs z }
-    ensures test { IsAntisymmetric C.cmp → IsAntisymmetric K.cmp → (key : K → C) (p : K → Bool) (cs : List C) (z : ZSet K K.cmp) → CoversOnce C.cmp key cs z → CoversOnce C.cmp key cs (keep p z) }
-    ensures no_key { IsAntisymmetric C.cmp → IsAntisymmetric K.cmp → (key : K → C) (c : C) (z : ZSet K K.cmp) → at_key C.cmp key c z ≡ zero K.cmp → count C.cmp c (keys_of C.cmp key z) ≡ 0 }
-    ensures no_part { IsAntisymmetric C.cmp → IsAntisymmetric K.cmp → (key : K → C) (c : C) (z : ZSet K K.cmp) → count C.cmp c (keys_of C.cmp key z) ≡ 0 → at_key C.cmp key c z ≡ zero K.cmp }
-    ensures part_or_cover { IsAntisymmetric C.cmp → IsAntisymmetric K.cmp → (key : K → C) (c : C) (z : ZSet K K.cmp) → (at_key C.cmp key c z ≡ zero K.cmp) ⊎ ((cs : List C) → CoversOnce C.cmp key cs z → count C.cmp c cs ≡ 1) }
+    ensures own_keys { TwoOrders C.cmp K.cmp → (key : K → C) (z : ZSet K K.cmp) → CoversOnce C.cmp key (keys_of C.cmp key z) z }
+    ensures by_weight { TwoOrders C.cmp K.cmp → (key : K → C) (cs : List C) (z : ZSet K K.cmp) → CoversOnce C.cmp key cs z → (k : K) → (weight k z ≡ pos 0) ⊎ (count C.cmp (key k) cs ≡ 1) }
+    ensures from_weights { TwoOrders C.cmp K.cmp → (key : K → C) (cs : List C) (z : ZSet K K.cmp) → ((k : K) → (weight k z ≡ pos 0) ⊎ (count C.cmp (key k) cs ≡ 1)) → CoversOnce C.cmp key cs z }
+    ensures test { TwoOrders C.cmp K.cmp → (key : K → C) (p : K → Bool) (cs : List C) (z : ZSet K K.cmp) → CoversOnce C.cmp key cs z → CoversOnce C.cmp key cs (keep p z) }
+    ensures no_key { TwoOrders C.cmp K.cmp → (key : K → C) (c : C) (z : ZSet K K.cmp) → at_key C.cmp key c z ≡ zero K.cmp → count C.cmp c (keys_of C.cmp key z) ≡ 0 }
+    ensures no_part { TwoOrders C.cmp K.cmp → (key : K → C) (c : C) (z : ZSet K K.cmp) → count C.cmp c (keys_of C.cmp key z) ≡ 0 → at_key C.cmp key c z ≡ zero K.cmp }
+    ensures part_or_cover { TwoOrders C.cmp K.cmp → (key : K → C) (c : C) (z : ZSet K K.cmp) → (at_key C.cmp key c z ≡ zero K.cmp) ⊎ ((cs : List C) → CoversOnce C.cmp key cs z → count C.cmp c cs ≡ 1) }
 {}
 
 /// The parts by the keys of a cover add up to the Z-set, and what an additive map gives for them adds up to what it
 /// gives for the Z-set.
 /// In short: `Σ_c z|c = z` and `Σ_c f(z|c) = f(z)`.
 pub fn parts_add_up<C: Ord, K: Ord, A>()
-    ensures whole { IsAntisymmetric C.cmp → IsAntisymmetric K.cmp → (key : K → C) (cs : List C) (z : ZSet K K.cmp) → CoversOnce C.cmp key cs z → sum_over (z_sets K.cmp) (λ c. at_key C.cmp key c z) cs ≡ z }
-    ensures additive { IsAntisymmetric C.cmp → IsAntisymmetric K.cmp → (key : K → C) (G : AbelianGroup A) → IsAbelian G → (f : ZSet K K.cmp → A)
+    ensures whole { TwoOrders C.cmp K.cmp → (key : K → C) (cs : List C) (z : ZSet K K.cmp) → CoversOnce C.cmp key cs z → sum_over (z_sets K.cmp) (λ c. at_key C.cmp key c z) cs ≡ z }
+    ensures additive { TwoOrders C.cmp K.cmp → (key : K → C) (G : AbelianGroup A) → IsAbelian G → (f : ZSet K K.cmp → A)
         → IsAdditive (z_sets K.cmp) G f → (cs : List C) (z : ZSet K K.cmp) → CoversOnce C.cmp key cs z → sum_over G (λ c. f (at_key C.cmp key c z)) cs ≡ f z }
 {}
 
@@ -47,12 +47,12 @@ pub fn parts_add_up<C: Ord, K: Ord, A>()
 /// keys of the change.
 /// In short: with `F(z) = Σ_c P c (z|c)`, `F(z + d) - F(z) = Σ_c (P c ((z + d)|c) - P c (z|c))` over the keys of `d`.
 pub fn sums_over_keys<C: Ord, K: Ord, A>()
-    ensures cover { IsAntisymmetric C.cmp → IsAntisymmetric K.cmp → (key : K → C) (G : AbelianGroup A) → IsAbelian G → (part : C → ZSet K K.cmp → A)
+    ensures cover { TwoOrders C.cmp K.cmp → (key : K → C) (G : AbelianGroup A) → IsAbelian G → (part : C → ZSet K K.cmp → A)
         → ((c : C) → part c (zero K.cmp) ≡ G.zero) → (cs : List C) (z : ZSet K K.cmp) → CoversOnce C.cmp key cs z → by_key C.cmp key G part z
         ≡ sum_over G (λ c. part c (at_key C.cmp key c z)) cs }
-    ensures none { IsAntisymmetric C.cmp → IsAntisymmetric K.cmp → (key : K → C) (G : AbelianGroup A) → IsAbelian G → (part : C → ZSet K K.cmp → A)
+    ensures none { TwoOrders C.cmp K.cmp → (key : K → C) (G : AbelianGroup A) → IsAbelian G → (part : C → ZSet K K.cmp → A)
         → ((c : C) → part c (zero K.cmp) ≡ G.zero) → by_key C.cmp key G part (zero K.cmp) ≡ G.zero }
-    ensures change { IsAntisymmetric C.cmp → IsAntisymmetric K.cmp → (key : K → C) (G : AbelianGroup A) → IsAbelian G → (part : C → ZSet K K.cmp → A)
+    ensures change { TwoOrders C.cmp K.cmp → (key : K → C) (G : AbelianGroup A) → IsAbelian G → (part : C → ZSet K K.cmp → A)
         → ((c : C) → part c (zero K.cmp) ≡ G.zero) → (cs : List C) (z d : ZSet K K.cmp) → CoversOnce C.cmp key cs d
         → minus_in G (by_key C.cmp key G part (plus z d)) (by_key C.cmp key G part z)
         ≡ sum_over G (λ c. minus_in G (part c (at_key C.cmp key c (plus z d))) (part c (at_key C.cmp key c z))) cs }
@@ -64,16 +64,16 @@ pub fn sums_over_keys_of_parts<C: Ord, K: Ord, A, B>()
     ensures same { (key : K → C) (G : AbelianGroup A) (part other : C → ZSet K K.cmp → A) → ((c : C) (y : ZSet K K.cmp) → part c y ≡ other c y) → (z : ZSet K K.cmp) → by_key C.cmp key G part z ≡ by_key C.cmp key G other z }
     ensures inside { (key : K → C) (G : AbelianGroup A) → IsAbelian G → (H : AbelianGroup B) → IsAbelian H → (f : A → B) → IsAdditive G H f
         → (part : C → ZSet K K.cmp → A) (z : ZSet K K.cmp) → f (by_key C.cmp key G part z) ≡ by_key C.cmp key H (λ c y. f (part c y)) z }
-    ensures one_key { IsAntisymmetric C.cmp → IsAntisymmetric K.cmp → (key : K → C) (G : AbelianGroup A) → IsAbelian G → (part : C → ZSet K K.cmp → A)
+    ensures one_key { TwoOrders C.cmp K.cmp → (key : K → C) (G : AbelianGroup A) → IsAbelian G → (part : C → ZSet K K.cmp → A)
         → ((c : C) → part c (zero K.cmp) ≡ G.zero) → (c : C) (z : ZSet K K.cmp) → by_key C.cmp key G part (at_key C.cmp key c z)
         ≡ part c (at_key C.cmp key c z) }
 {}
 
 /// A sum over the keys of additive parts is additive, and one of linear extensions is a linear extension.
 pub fn sums_over_keys_are_linear<C: Ord, K: Ord, A>()
-    ensures additive { IsAntisymmetric C.cmp → IsAntisymmetric K.cmp → (key : K → C) (G : AbelianGroup A) → IsAbelian G
+    ensures additive { TwoOrders C.cmp K.cmp → (key : K → C) (G : AbelianGroup A) → IsAbelian G
         → (part : C → ZSet K K.cmp → A) → ((c : C) → IsAdditive (z_sets K.cmp) G (part c)) → IsAdditive (z_sets K.cmp) G (by_key C.cmp key G part) }
-    ensures extension { IsAntisymmetric C.cmp → IsAntisymmetric K.cmp → (key : K → C) (G : AbelianGroup A) → IsAbelian G
+    ensures extension { TwoOrders C.cmp K.cmp → (key : K → C) (G : AbelianGroup A) → IsAbelian G
         → (h : C → K → A) (z : ZSet K K.cmp) → by_key C.cmp key G (λ c y. lin G (h c) y) z ≡ lin G (λ k. h (key k) k) z }
 {}
 
@@ -81,7 +81,7 @@ pub fn sums_over_keys_are_linear<C: Ord, K: Ord, A>()
 /// coarser one.
 /// In short: `Σ_d F(z|d) = F(z)`.
 pub fn sums_over_keys_add_up<C: Ord, K: Ord, D: Ord, A>()
-    ensures { IsAntisymmetric C.cmp → IsAntisymmetric K.cmp → IsAntisymmetric D.cmp → (key : K → C) (place : K → D) (inner : C → D)
+    ensures { ThreeOrders C.cmp K.cmp D.cmp → (key : K → C) (place : K → D) (inner : C → D)
         → ((k : K) → place k ≡ inner (key k)) → (G : AbelianGroup A) → IsAbelian G → (part : C → ZSet K K.cmp → A) → ((c : C) → part c (zero K.cmp) ≡ G.zero)
         → (ds : List D) (z : ZSet K K.cmp) → CoversOnce D.cmp place ds z → sum_over G (λ d. by_key C.cmp key G part (at_key D.cmp place d z)) ds
         ≡ by_key C.cmp key G part z }
@@ -91,11 +91,11 @@ pub fn sums_over_keys_add_up<C: Ord, K: Ord, D: Ord, A>()
 /// side add up to the product.
 /// In short: `Σ_c (y|c × z|c) = y × z`.
 pub fn products_add_up_by_key<C: Ord, J: Ord, K: Ord, L: Ord>()
-    ensures left { IsAntisymmetric C.cmp → IsAntisymmetric J.cmp → IsAntisymmetric K.cmp → IsAntisymmetric L.cmp
+    ensures left { FourOrders C.cmp J.cmp K.cmp L.cmp
         → (left : J → C) (right : K → C) (f : J → K → List L) → ((j : J) (k : K) → is_eq (C.cmp (left j) (right k)) ≡ false → f j k ≡ [])
         → (cs : List C) (y : ZSet J J.cmp) (z : ZSet K K.cmp) → CoversOnce C.cmp left cs y
         → sum_over (z_sets L.cmp) (λ c. product L.cmp f (at_key C.cmp left c y) (at_key C.cmp right c z)) cs ≡ product L.cmp f y z }
-    ensures right { IsAntisymmetric C.cmp → IsAntisymmetric J.cmp → IsAntisymmetric K.cmp → IsAntisymmetric L.cmp
+    ensures right { FourOrders C.cmp J.cmp K.cmp L.cmp
         → (left : J → C) (right : K → C) (f : J → K → List L) → ((j : J) (k : K) → is_eq (C.cmp (left j) (right k)) ≡ false → f j k ≡ [])
         → (cs : List C) (y : ZSet J J.cmp) (z : ZSet K K.cmp) → CoversOnce C.cmp right cs z
         → sum_over (z_sets L.cmp) (λ c. product L.cmp f (at_key C.cmp left c y) (at_key C.cmp right c z)) cs ≡ product L.cmp f y z }
@@ -105,7 +105,7 @@ pub fn products_add_up_by_key<C: Ord, J: Ord, K: Ord, L: Ord>()
 /// both sides.
 /// In short: `Δ(y ⋈ z) = Σ_c (y|c ⋈ Δz|c + Δy|c ⋈ z|c + Δy|c ⋈ Δz|c)`.
 pub fn joins_change_by_key<C: Ord, J: Ord, K: Ord, L: Ord>()
-    ensures { IsAntisymmetric C.cmp → IsAntisymmetric J.cmp → IsAntisymmetric K.cmp → IsAntisymmetric L.cmp
+    ensures { FourOrders C.cmp J.cmp K.cmp L.cmp
         → (left : J → Option C) (right : K → Option C) (pair : J → K → Option L) (cs : List C) (y dy : ZSet J J.cmp) (z dz : ZSet K K.cmp)
         → CoversSomeOnce C.cmp left cs dy → CoversSomeOnce C.cmp right cs dz
         → minus (product L.cmp (pairs_where C.cmp left right pair) (plus y dy) (plus z dz)) (product L.cmp (pairs_where C.cmp left right pair) y z)
@@ -118,18 +118,18 @@ pub fn joins_change_by_key<C: Ord, J: Ord, K: Ord, L: Ord>()
 /// The products of the parts add up also for the pairs with the same optional keys, by the keys of a list that covers
 /// those of one side, as the keys that are there do. Two keys without a common key have no image.
 pub fn products_add_up_by_optional_key<C: Ord, J: Ord, K: Ord, L: Ord>()
-    ensures left { IsAntisymmetric C.cmp → IsAntisymmetric J.cmp → IsAntisymmetric K.cmp → IsAntisymmetric L.cmp
+    ensures left { FourOrders C.cmp J.cmp K.cmp L.cmp
         → (left : J → Option C) (right : K → Option C) (pair : J → K → Option L) (cs : List C) (y : ZSet J J.cmp) (z : ZSet K K.cmp)
         → CoversSomeOnce C.cmp left cs y
         → sum_over (z_sets L.cmp) (λ c. product L.cmp (pairs_where C.cmp left right pair) (at_some_key C.cmp left c y) (at_some_key C.cmp right c z)) cs
         ≡ product L.cmp (pairs_where C.cmp left right pair) y z }
-    ensures right { IsAntisymmetric C.cmp → IsAntisymmetric J.cmp → IsAntisymmetric K.cmp → IsAntisymmetric L.cmp
+    ensures right { FourOrders C.cmp J.cmp K.cmp L.cmp
         → (left : J → Option C) (right : K → Option C) (pair : J → K → Option L) (cs : List C) (y : ZSet J J.cmp) (z : ZSet K K.cmp)
         → CoversSomeOnce C.cmp right cs z
         → sum_over (z_sets L.cmp) (λ c. product L.cmp (pairs_where C.cmp left right pair) (at_some_key C.cmp left c y) (at_some_key C.cmp right c z)) cs
         ≡ product L.cmp (pairs_where C.cmp left right pair) y z }
     ensures cover { (key : K → Option C) (z : ZSet K K.cmp) → CoversSomeOnce C.cmp key (some_keys_of C.cmp key z) z }
-    ensures apart { IsAntisymmetric C.cmp → IsAntisymmetric J.cmp → IsAntisymmetric K.cmp → IsAntisymmetric L.cmp
+    ensures apart { FourOrders C.cmp J.cmp K.cmp L.cmp
         → (left : J → Option C) (right : K → Option C) (pair : J → K → Option L) (left_of : J → C) (right_of : K → C)
         → ((j : J) (c : C) → left j ≡ Some c → left_of j ≡ c) → ((k : K) (c : C) → right k ≡ Some c → right_of k ≡ c) → (j : J) (k : K)
         → is_eq (C.cmp (left_of j) (right_of k)) ≡ false → pairs_where C.cmp left right pair j k ≡ [] }
@@ -138,5 +138,5 @@ pub fn products_add_up_by_optional_key<C: Ord, J: Ord, K: Ord, L: Ord>()
 /// The distinct Z-set is a sum over the keys themselves.
 /// In short: `distinct(z) = Σ_k [z(k) > 0] k`.
 pub fn distinct_is_by_key<K: Ord>()
-    ensures { IsAntisymmetric K.cmp → (z : ZSet K K.cmp) → distinct z ≡ by_key K.cmp (λ k. k) (z_sets K.cmp) (λ k y. if int_lt (pos 0) (weight k y) then single K.cmp k else zero K.cmp) z }
+    ensures { IsOrder K.cmp → (z : ZSet K K.cmp) → distinct z ≡ by_key K.cmp (λ k. k) (z_sets K.cmp) (λ k y. if int_lt (pos 0) (weight k y) then single K.cmp k else zero K.cmp) z }
 {}

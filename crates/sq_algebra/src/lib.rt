@@ -21,16 +21,16 @@ pub mod products;
 pub mod shards;
 
 ghost use Rattle.std.specs.Prelude.{◌≡◌, ◌==◌, ◌<◌, ℕ, slice_get, Some, ◌++◌, ℤ, List, pos, ◌+ℤ◌, ◌-ℤ◌, neg_ℤ, map, length, IsTrue, if◌then◌else◌};
-ghost use Rattle.std.specs.FinMap.{IsAntisymmetric};
 ghost use Rattle.std.specs.List.Sorted.{IsPermutation};
 ghost use Rattle.std.specs.declared.cmp.Ordering.TheVariants.{Less};
 ghost use Rattle.std.specs.Ordering.{is_eq};
+ghost use Rattle.sq_algebra.specs.Orders.{IsOrder};
 ghost use Rattle.sq_algebra.specs.Listed.{count, is_ascending, in_order, changed};
 ghost use Rattle.sq_algebra.specs.ZSet.{ZSet, is_canonical, entries, zero, single, from_entries, from_pairs, of_list, weight, weight_in, total, plus, negate, minus};
 
 /// Two Z-sets that give each key the same weight are the same Z-set.
 pub fn weights_decide<K: Ord>()
-    ensures { IsAntisymmetric K.cmp → (y z : ZSet K K.cmp) → ((k : K) → weight k y ≡ weight k z) → y ≡ z }
+    ensures { IsOrder K.cmp → (y z : ZSet K K.cmp) → ((k : K) → weight k y ≡ weight k z) → y ≡ z }
 {}
 
 /// The entries of a Z-set are canonical, which says that their keys ascend, and a canonical list is the entries of one Z-set.
@@ -63,15 +63,15 @@ pub fn totals_add<K: Ord>()
 /// The Z-set of a list of pairs gives each key the sum of its weights, and does not depend on the order of the pairs.
 pub fn pairs_add_up<K: Ord>()
     ensures weights { (k : K) (ps : List (K × ℤ)) → weight k (from_pairs K.cmp ps) ≡ weight_in K.cmp k ps }
-    ensures order { IsAntisymmetric K.cmp → (ps qs : List (K × ℤ)) → IsPermutation ps qs → from_pairs K.cmp qs ≡ from_pairs K.cmp ps }
-    ensures joined { IsAntisymmetric K.cmp → (ps qs : List (K × ℤ)) → from_pairs K.cmp (ps ++ qs) ≡ plus (from_pairs K.cmp ps) (from_pairs K.cmp qs) }
+    ensures order { IsOrder K.cmp → (ps qs : List (K × ℤ)) → IsPermutation ps qs → from_pairs K.cmp qs ≡ from_pairs K.cmp ps }
+    ensures joined { IsOrder K.cmp → (ps qs : List (K × ℤ)) → from_pairs K.cmp (ps ++ qs) ≡ plus (from_pairs K.cmp ps) (from_pairs K.cmp qs) }
 {}
 
 /// The Z-set of a list gives each key its count, and its total is the length of the list.
 pub fn lists_are_counted<K: Ord>()
     ensures weights { (k : K) (xs : List K) → weight k (of_list K.cmp xs) ≡ pos (count K.cmp k xs) }
     ensures total { (xs : List K) → total (of_list K.cmp xs) ≡ pos (length xs) }
-    ensures joined { IsAntisymmetric K.cmp → (xs ys : List K) → of_list K.cmp (xs ++ ys) ≡ plus (of_list K.cmp xs) (of_list K.cmp ys) }
+    ensures joined { IsOrder K.cmp → (xs ys : List K) → of_list K.cmp (xs ++ ys) ≡ plus (of_list K.cmp xs) (of_list K.cmp ys) }
 {}
 
 /// A list in order ascends, and each key of the list stands in it once, and no other key.
@@ -85,5 +85,5 @@ pub fn lists_are_ordered<K: Ord>()
 pub fn changes_are_differences<K: Ord>()
     ensures ascending { (before now : List K) → IsTrue (is_ascending K.cmp (changed K.cmp before now)) }
     ensures once { (k : K) (before now : List K) → count K.cmp k (changed K.cmp before now) ≡ (if count K.cmp k before == count K.cmp k now then 0 else 1) }
-    ensures entries { IsAntisymmetric K.cmp → (before now : List K) → entries (minus (of_list K.cmp now) (of_list K.cmp before)) ≡ map (λ k. (k, pos (count K.cmp k now) -ℤ pos (count K.cmp k before))) (changed K.cmp before now) }
+    ensures entries { IsOrder K.cmp → (before now : List K) → entries (minus (of_list K.cmp now) (of_list K.cmp before)) ≡ map (λ k. (k, pos (count K.cmp k now) -ℤ pos (count K.cmp k before))) (changed K.cmp before now) }
 {}

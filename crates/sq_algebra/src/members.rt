@@ -1,10 +1,10 @@
 //! The entries of a Z-set, and members of a list that pass a test.
 
 ghost use Rattle.std.specs.Prelude.{◌≡◌, ℤ, pos, neg_ℤ, List, [], ◌∷◌, ◌++◌, map, Bool, ◌⊎◌, ◌↔◌, IsTrue, int_lt};
-ghost use Rattle.std.specs.FinMap.{IsAntisymmetric};
 ghost use Rattle.std.specs.List.{Any, Contains, filter, flat_map, list_any};
 ghost use Rattle.std.specs.Ordering.{is_eq};
 ghost use Rattle.std.specs.declared.cmp.Ordering.{Ordering};
+ghost use Rattle.sq_algebra.specs.Orders.{IsOrder};
 ghost use Rattle.sq_algebra.specs.Listed.{count, in_order};
 ghost use Rattle.sq_algebra.specs.ZSet.{ZSet, entries, from_pairs, of_list, weight, negate};
 ghost use Rattle.sq_algebra.specs.Groups.{z_sets, sum_over};
@@ -16,9 +16,9 @@ ghost use Rattle.sq_algebra.specs.Keyed.{at_key};
 /// counts.
 pub fn entries_are_members<K: Ord>()
     ensures weights { (z : ZSet K K.cmp) (k : K) (n : ℤ) → Contains (entries z) (k, n) → (weight k z ≡ n) × (n ≡ pos 0 → ⊥) }
-    ensures there { IsAntisymmetric K.cmp → (z : ZSet K K.cmp) (k : K) → (weight k z ≡ pos 0 → ⊥) → Contains (entries z) (k, weight k z) }
-    ensures test { IsAntisymmetric K.cmp → (p : K → Bool) (z : ZSet K K.cmp) (k : K) (n : ℤ) → Contains (entries (keep p z)) (k, n) ↔ (Contains (entries z) (k, n) × IsTrue (p k)) }
-    ensures list { IsAntisymmetric K.cmp → (xs : List K) → entries (of_list K.cmp xs) ≡ map (λ k. (k, pos (count K.cmp k xs))) (in_order K.cmp xs) }
+    ensures there { IsOrder K.cmp → (z : ZSet K K.cmp) (k : K) → (weight k z ≡ pos 0 → ⊥) → Contains (entries z) (k, weight k z) }
+    ensures test { IsOrder K.cmp → (p : K → Bool) (z : ZSet K K.cmp) (k : K) (n : ℤ) → Contains (entries (keep p z)) (k, n) ↔ (Contains (entries z) (k, n) × IsTrue (p k)) }
+    ensures list { IsOrder K.cmp → (xs : List K) → entries (of_list K.cmp xs) ≡ map (λ k. (k, pos (count K.cmp k xs))) (in_order K.cmp xs) }
 {}
 
 /// The entries of the keys that pass a test, of the part of one key, of a negation and of the distinct Z-set are those
@@ -27,13 +27,13 @@ pub fn entries_of_operators<K: Ord, C>()
     ensures test { (p : K → Bool) (z : ZSet K K.cmp) → entries (keep p z) ≡ filter (λ e. p e.0) (entries z) }
     ensures part { (Q : C → C → Ordering) (key : K → C) (c : C) (z : ZSet K K.cmp) → entries (at_key Q key c z) ≡ filter (λ e. is_eq (Q c (key e.0))) (entries z) }
     ensures negation { (z : ZSet K K.cmp) → entries (negate z) ≡ map (λ e. (e.0, neg_ℤ e.1)) (entries z) }
-    ensures distinct { IsAntisymmetric K.cmp → (z : ZSet K K.cmp) → entries (distinct z) ≡ map (λ e. (e.0, pos 1)) (filter (λ e. int_lt (pos 0) e.1) (entries z)) }
+    ensures distinct { IsOrder K.cmp → (z : ZSet K K.cmp) → entries (distinct z) ≡ map (λ e. (e.0, pos 1)) (filter (λ e. int_lt (pos 0) e.1) (entries z)) }
     ensures collected { (z : ZSet K K.cmp) → from_pairs K.cmp (entries z) ≡ z }
 {}
 
 /// A sum of Z-sets over a list collects the entries of all of them.
 pub fn sums_collect_entries<K: Ord, X>()
-    ensures { IsAntisymmetric K.cmp → (f : X → ZSet K K.cmp) (xs : List X) → sum_over (z_sets K.cmp) f xs ≡ from_pairs K.cmp (flat_map (λ x. entries (f x)) xs) }
+    ensures { IsOrder K.cmp → (f : X → ZSet K K.cmp) (xs : List X) → sum_over (z_sets K.cmp) f xs ≡ from_pairs K.cmp (flat_map (λ x. entries (f x)) xs) }
 {}
 
 /// Some member of a list passes a test: never of an empty list, and of a list with one member more, of two lists

@@ -1,7 +1,7 @@
 //! Z-sets without weights below 0.
 
 ghost use Rattle.std.specs.Prelude.{◌≡◌, pos, ◌≤ℤ◌, List, length, Bool};
-ghost use Rattle.std.specs.FinMap.{IsAntisymmetric};
+ghost use Rattle.sq_algebra.specs.Orders.{IsOrder, TwoOrders, ThreeOrders};
 ghost use Rattle.sq_algebra.specs.ZSet.{ZSet, of_list, weight, total, plus};
 ghost use Rattle.sq_algebra.specs.Operators.{image, keep, distinct, product, IsNonNegative, repeated};
 
@@ -9,21 +9,21 @@ ghost use Rattle.sq_algebra.specs.Operators.{image, keep, distinct, product, IsN
 /// length of this list.
 pub fn nonnegative_is_a_list<K: Ord>()
     ensures list { (xs : List K) → IsNonNegative (of_list K.cmp xs) }
-    ensures repeated { IsAntisymmetric K.cmp → (z : ZSet K K.cmp) → IsNonNegative z → of_list K.cmp (repeated z) ≡ z }
-    ensures total { IsAntisymmetric K.cmp → (z : ZSet K K.cmp) → IsNonNegative z → total z ≡ pos (length (repeated z)) }
+    ensures repeated { IsOrder K.cmp → (z : ZSet K K.cmp) → IsNonNegative z → of_list K.cmp (repeated z) ≡ z }
+    ensures total { IsOrder K.cmp → (z : ZSet K K.cmp) → IsNonNegative z → total z ≡ pos (length (repeated z)) }
 {}
 
 /// The operators give no weight below 0 if they are given none.
 pub fn operators_stay_nonnegative<J: Ord, K: Ord, L: Ord>()
     ensures sum { (y z : ZSet K K.cmp) → IsNonNegative y → IsNonNegative z → IsNonNegative (plus y z) }
     ensures distinct { (z : ZSet K K.cmp) → IsNonNegative (distinct z) }
-    ensures test { IsAntisymmetric K.cmp → (p : K → Bool) (z : ZSet K K.cmp) → IsNonNegative z → IsNonNegative (keep p z) }
-    ensures image { IsAntisymmetric K.cmp → IsAntisymmetric L.cmp → (f : K → List L) (z : ZSet K K.cmp) → IsNonNegative z → IsNonNegative (image L.cmp f z) }
-    ensures product { IsAntisymmetric J.cmp → IsAntisymmetric K.cmp → IsAntisymmetric L.cmp → (f : J → K → List L) (y : ZSet J J.cmp) (z : ZSet K K.cmp) → IsNonNegative y → IsNonNegative z → IsNonNegative (product L.cmp f y z) }
+    ensures test { IsOrder K.cmp → (p : K → Bool) (z : ZSet K K.cmp) → IsNonNegative z → IsNonNegative (keep p z) }
+    ensures image { TwoOrders K.cmp L.cmp → (f : K → List L) (z : ZSet K K.cmp) → IsNonNegative z → IsNonNegative (image L.cmp f z) }
+    ensures product { ThreeOrders J.cmp K.cmp L.cmp → (f : J → K → List L) (y : ZSet J J.cmp) (z : ZSet K K.cmp) → IsNonNegative y → IsNonNegative z → IsNonNegative (product L.cmp f y z) }
 {}
 
 /// Without weights below 0 no weight is above the total, and a test does not raise the total.
 pub fn nonnegative_totals<K: Ord>()
-    ensures weight { IsAntisymmetric K.cmp → (k : K) (z : ZSet K K.cmp) → IsNonNegative z → weight k z ≤ℤ total z }
-    ensures test { IsAntisymmetric K.cmp → (p : K → Bool) (z : ZSet K K.cmp) → IsNonNegative z → total (keep p z) ≤ℤ total z }
+    ensures weight { IsOrder K.cmp → (k : K) (z : ZSet K K.cmp) → IsNonNegative z → weight k z ≤ℤ total z }
+    ensures test { IsOrder K.cmp → (p : K → Bool) (z : ZSet K K.cmp) → IsNonNegative z → total (keep p z) ≤ℤ total z }
 {}

@@ -1,9 +1,9 @@
 //! Z-sets whose keys all pass a test.
 
 ghost use Rattle.std.specs.Prelude.{◌≡◌, ℕ, List, Bool, IsTrue};
-ghost use Rattle.std.specs.FinMap.{IsAntisymmetric};
 ghost use Rattle.std.specs.List.{list_all};
 ghost use Rattle.std.specs.declared.cmp.Ordering.{Ordering};
+ghost use Rattle.sq_algebra.specs.Orders.{IsOrder};
 ghost use Rattle.sq_algebra.specs.Keyed.{Shards, at_key, cut};
 ghost use Rattle.sq_algebra.specs.Operators.{image, keep};
 ghost use Rattle.sq_algebra.specs.Passing.{all_pass};
@@ -11,7 +11,7 @@ ghost use Rattle.sq_algebra.specs.ZSet.{ZSet, minus, negate, of_list, plus};
 
 /// All keys of a list's Z-set pass a test exactly if all members of the list do.
 pub fn tests_of_lists<K: Ord>()
-    ensures { IsAntisymmetric K.cmp → (p : K → Bool) (xs : List K) → all_pass p (of_list K.cmp xs) ≡ list_all p xs }
+    ensures { IsOrder K.cmp → (p : K → Bool) (xs : List K) → all_pass p (of_list K.cmp xs) ≡ list_all p xs }
 {}
 
 /// If all keys of two Z-sets pass a test, so do those of their sum and their difference.

@@ -1,8 +1,8 @@
 //! The product of two Z-sets.
 
 ghost use Rattle.std.specs.Prelude.{◌≡◌, ◌*ℤ◌, List, [], Bool, if◌then◌else◌};
-ghost use Rattle.std.specs.FinMap.{IsAntisymmetric};
 ghost use Rattle.std.specs.List.{filter, flat_map};
+ghost use Rattle.sq_algebra.specs.Orders.{IsOrder, ThreeOrders, FourOrders};
 ghost use Rattle.sq_algebra.specs.ZSet.{ZSet, zero, of_list, weight, plus, minus};
 ghost use Rattle.sq_algebra.specs.Groups.{AbelianGroup, IsAbelian, IsAdditive, z_sets, sum_over};
 ghost use Rattle.sq_algebra.specs.Operators.{lin, image, keep, product, meet};
@@ -11,48 +11,48 @@ ghost use Rattle.sq_algebra.specs.Operators.{lin, image, keep, product, meet};
 /// the sides may change places.
 /// In short: `(x + y) × z = x × z + y × z`, `y × (x + z) = y × x + y × z`, `0 × z = 0`.
 pub fn products_are_bilinear<J: Ord, K: Ord, L: Ord>()
-    ensures extension { IsAntisymmetric J.cmp → IsAntisymmetric K.cmp → IsAntisymmetric L.cmp
+    ensures extension { ThreeOrders J.cmp K.cmp L.cmp
         → (f : J → K → List L) (y : ZSet J J.cmp) (z : ZSet K K.cmp) → product L.cmp f y z
         ≡ lin (z_sets L.cmp) (λ j. lin (z_sets L.cmp) (λ k. of_list L.cmp (f j k)) z) y }
-    ensures left { IsAntisymmetric J.cmp → IsAntisymmetric K.cmp → IsAntisymmetric L.cmp → (f : J → K → List L) (z : ZSet K K.cmp) → IsAdditive (z_sets J.cmp) (z_sets L.cmp) (λ y. product L.cmp f y z) }
-    ensures right { IsAntisymmetric J.cmp → IsAntisymmetric K.cmp → IsAntisymmetric L.cmp → (f : J → K → List L) (y : ZSet J J.cmp) → IsAdditive (z_sets K.cmp) (z_sets L.cmp) (product L.cmp f y) }
-    ensures none_left { IsAntisymmetric J.cmp → IsAntisymmetric K.cmp → IsAntisymmetric L.cmp → (f : J → K → List L) (z : ZSet K K.cmp) → product L.cmp f (zero J.cmp) z ≡ zero L.cmp }
-    ensures none_right { IsAntisymmetric J.cmp → IsAntisymmetric K.cmp → IsAntisymmetric L.cmp → (f : J → K → List L) (y : ZSet J J.cmp) → product L.cmp f y (zero K.cmp) ≡ zero L.cmp }
-    ensures flipped { IsAntisymmetric J.cmp → IsAntisymmetric K.cmp → IsAntisymmetric L.cmp → (f : J → K → List L) (y : ZSet J J.cmp) (z : ZSet K K.cmp) → product L.cmp f y z ≡ product L.cmp (λ k j. f j k) z y }
-    ensures same { IsAntisymmetric J.cmp → IsAntisymmetric K.cmp → IsAntisymmetric L.cmp → (f g : J → K → List L) → ((j : J) (k : K) → f j k ≡ g j k)
+    ensures left { ThreeOrders J.cmp K.cmp L.cmp → (f : J → K → List L) (z : ZSet K K.cmp) → IsAdditive (z_sets J.cmp) (z_sets L.cmp) (λ y. product L.cmp f y z) }
+    ensures right { ThreeOrders J.cmp K.cmp L.cmp → (f : J → K → List L) (y : ZSet J J.cmp) → IsAdditive (z_sets K.cmp) (z_sets L.cmp) (product L.cmp f y) }
+    ensures none_left { ThreeOrders J.cmp K.cmp L.cmp → (f : J → K → List L) (z : ZSet K K.cmp) → product L.cmp f (zero J.cmp) z ≡ zero L.cmp }
+    ensures none_right { ThreeOrders J.cmp K.cmp L.cmp → (f : J → K → List L) (y : ZSet J J.cmp) → product L.cmp f y (zero K.cmp) ≡ zero L.cmp }
+    ensures flipped { ThreeOrders J.cmp K.cmp L.cmp → (f : J → K → List L) (y : ZSet J J.cmp) (z : ZSet K K.cmp) → product L.cmp f y z ≡ product L.cmp (λ k j. f j k) z y }
+    ensures same { ThreeOrders J.cmp K.cmp L.cmp → (f g : J → K → List L) → ((j : J) (k : K) → f j k ≡ g j k)
         → (y : ZSet J J.cmp) (z : ZSet K K.cmp) → product L.cmp f y z ≡ product L.cmp g y z }
 {}
 
 /// The change of a product is old times change, change times old, and change times change.
 /// In short: `Δ(y × z) = y × Δz + Δy × z + Δy × Δz`.
 pub fn products_change<J: Ord, K: Ord, L: Ord>()
-    ensures { IsAntisymmetric J.cmp → IsAntisymmetric K.cmp → IsAntisymmetric L.cmp → (f : J → K → List L) (y dy : ZSet J J.cmp) (z dz : ZSet K K.cmp)
+    ensures { ThreeOrders J.cmp K.cmp L.cmp → (f : J → K → List L) (y dy : ZSet J J.cmp) (z dz : ZSet K K.cmp)
         → minus (product L.cmp f (plus y dy) (plus z dz)) (product L.cmp f y z)
         ≡ plus (plus (product L.cmp f y dz) (product L.cmp f dy z)) (product L.cmp f dy dz) }
 {}
 
 /// A test before a product, on either side, and a test or an image after it are in the product.
 pub fn products_take_tests_in<J: Ord, K: Ord, L: Ord, M: Ord>()
-    ensures left { IsAntisymmetric J.cmp → IsAntisymmetric K.cmp → IsAntisymmetric L.cmp
+    ensures left { ThreeOrders J.cmp K.cmp L.cmp
         → (f : J → K → List L) (p : J → Bool) (y : ZSet J J.cmp) (z : ZSet K K.cmp) → product L.cmp f (keep p y) z
         ≡ product L.cmp (λ j k. if p j then f j k else []) y z }
-    ensures right { IsAntisymmetric J.cmp → IsAntisymmetric K.cmp → IsAntisymmetric L.cmp
+    ensures right { ThreeOrders J.cmp K.cmp L.cmp
         → (f : J → K → List L) (p : K → Bool) (y : ZSet J J.cmp) (z : ZSet K K.cmp) → product L.cmp f y (keep p z)
         ≡ product L.cmp (λ j k. if p k then f j k else []) y z }
-    ensures after { IsAntisymmetric J.cmp → IsAntisymmetric K.cmp → IsAntisymmetric L.cmp
+    ensures after { ThreeOrders J.cmp K.cmp L.cmp
         → (p : L → Bool) (f : J → K → List L) (y : ZSet J J.cmp) (z : ZSet K K.cmp) → keep p (product L.cmp f y z)
         ≡ product L.cmp (λ j k. filter p (f j k)) y z }
-    ensures image { IsAntisymmetric J.cmp → IsAntisymmetric K.cmp → IsAntisymmetric L.cmp → IsAntisymmetric M.cmp
+    ensures image { FourOrders J.cmp K.cmp L.cmp M.cmp
         → (g : L → List M) (f : J → K → List L) (y : ZSet J J.cmp) (z : ZSet K K.cmp) → image M.cmp g (product L.cmp f y z)
         ≡ product M.cmp (λ j k. flat_map g (f j k)) y z }
 {}
 
 /// A product with the image of a Z-set on one side is a product with the Z-set itself.
 pub fn products_take_images_in<I: Ord, J: Ord, K: Ord, L: Ord>()
-    ensures left { IsAntisymmetric I.cmp → IsAntisymmetric J.cmp → IsAntisymmetric K.cmp → IsAntisymmetric L.cmp
+    ensures left { FourOrders I.cmp J.cmp K.cmp L.cmp
         → (f : J → K → List L) (g : I → List J) (x : ZSet I I.cmp) (z : ZSet K K.cmp) → product L.cmp f (image J.cmp g x) z
         ≡ product L.cmp (λ i k. flat_map (λ j. f j k) (g i)) x z }
-    ensures right { IsAntisymmetric I.cmp → IsAntisymmetric J.cmp → IsAntisymmetric K.cmp → IsAntisymmetric L.cmp
+    ensures right { FourOrders I.cmp J.cmp K.cmp L.cmp
         → (f : J → K → List L) (g : I → List K) (y : ZSet J J.cmp) (x : ZSet I I.cmp) → product L.cmp f y (image K.cmp g x)
         ≡ product L.cmp (λ j i. flat_map (f j) (g i)) y x }
 {}
@@ -60,8 +60,8 @@ pub fn products_take_images_in<I: Ord, J: Ord, K: Ord, L: Ord>()
 /// A linear extension over a product is one over its sides; and a key that two Z-sets have both has the product of its
 /// weights in what they have both.
 pub fn products_are_weighed<J: Ord, K: Ord, L: Ord, A>()
-    ensures linear { IsAntisymmetric J.cmp → IsAntisymmetric K.cmp → IsAntisymmetric L.cmp → (G : AbelianGroup A) → IsAbelian G
+    ensures linear { ThreeOrders J.cmp K.cmp L.cmp → (G : AbelianGroup A) → IsAbelian G
         → (h : L → A) (f : J → K → List L) (y : ZSet J J.cmp) (z : ZSet K K.cmp) → lin G h (product L.cmp f y z)
         ≡ lin G (λ j. lin G (λ k. sum_over G h (f j k)) z) y }
-    ensures meet { IsAntisymmetric K.cmp → (k : K) (y z : ZSet K K.cmp) → weight k (meet y z) ≡ weight k y *ℤ weight k z }
+    ensures meet { IsOrder K.cmp → (k : K) (y z : ZSet K K.cmp) → weight k (meet y z) ≡ weight k y *ℤ weight k z }
 {}

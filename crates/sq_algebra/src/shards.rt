@@ -1,9 +1,9 @@
 //! The parts of Z-sets in a set of shards.
 
 ghost use Rattle.std.specs.Prelude.{◌≡◌, ℕ, ℤ, pos, Option, Some, List, [], map, Bool, false, ◌==◌, ◌↔◌, IsTrue, nat_lt, if◌then◌else◌};
-ghost use Rattle.std.specs.FinMap.{IsAntisymmetric};
 ghost use Rattle.std.specs.List.{Any, filter};
 ghost use Rattle.std.specs.Ordering.{is_eq, nat_cmp};
+ghost use Rattle.sq_algebra.specs.Orders.{IsOrder, TwoOrders, FourOrders};
 ghost use Rattle.sq_algebra.specs.Listed.{count};
 ghost use Rattle.sq_algebra.specs.ZSet.{ZSet, entries, zero, weight, plus};
 ghost use Rattle.sq_algebra.specs.Groups.{AbelianGroup, IsAbelian, IsAdditive, z_sets, minus as minus_in, sum_over};
@@ -14,25 +14,25 @@ ghost use Rattle.sq_algebra.specs.Keyed.{by_key, Shards, cut, over_shards, numbe
 /// additive.
 /// In short: `Σ_s z|s = z` and `Σ_s f(z|s) = f(z)`.
 pub fn shards_add_up<K: Ord, D, A>()
-    ensures whole { IsAntisymmetric K.cmp → (S : Shards D) (key : K → D) (z : ZSet K K.cmp) → over_shards (z_sets K.cmp) S (λ s. cut S key s z) ≡ z }
-    ensures additive { IsAntisymmetric K.cmp → (S : Shards D) (key : K → D) (G : AbelianGroup A) → IsAbelian G → (f : ZSet K K.cmp → A)
+    ensures whole { IsOrder K.cmp → (S : Shards D) (key : K → D) (z : ZSet K K.cmp) → over_shards (z_sets K.cmp) S (λ s. cut S key s z) ≡ z }
+    ensures additive { IsOrder K.cmp → (S : Shards D) (key : K → D) (G : AbelianGroup A) → IsAbelian G → (f : ZSet K K.cmp → A)
         → IsAdditive (z_sets K.cmp) G f → (z : ZSet K K.cmp) → over_shards G S (λ s. f (cut S key s z)) ≡ f z }
-    ensures part { IsAntisymmetric K.cmp → (S : Shards D) (key : K → D) (s : ℕ) → IsAdditive (z_sets K.cmp) (z_sets K.cmp) (cut S key s) }
-    ensures none { IsAntisymmetric K.cmp → (S : Shards D) (key : K → D) (s : ℕ) → cut S key s (zero K.cmp) ≡ zero K.cmp }
-    ensures weights { IsAntisymmetric K.cmp → (S : Shards D) (key : K → D) (k : K) (s : ℕ) (z : ZSet K K.cmp) → weight k (cut S key s z) ≡ (if s == S.shard (key k) then weight k z else pos 0) }
+    ensures part { IsOrder K.cmp → (S : Shards D) (key : K → D) (s : ℕ) → IsAdditive (z_sets K.cmp) (z_sets K.cmp) (cut S key s) }
+    ensures none { IsOrder K.cmp → (S : Shards D) (key : K → D) (s : ℕ) → cut S key s (zero K.cmp) ≡ zero K.cmp }
+    ensures weights { IsOrder K.cmp → (S : Shards D) (key : K → D) (k : K) (s : ℕ) (z : ZSet K K.cmp) → weight k (cut S key s z) ≡ (if s == S.shard (key k) then weight k z else pos 0) }
     ensures entries { (S : Shards D) (key : K → D) (s : ℕ) (z : ZSet K K.cmp) → entries (cut S key s z) ≡ filter (λ e. s == S.shard (key e.0)) (entries z) }
-    ensures gathered { IsAntisymmetric K.cmp → (S : Shards D) (key : K → D) (z : ZSet K K.cmp) → sum_over (z_sets K.cmp) (λ y. y) (map (λ s. cut S key s z) S.numbers) ≡ z }
-    ensures again { IsAntisymmetric K.cmp → (S : Shards D) (key : K → D) (s t : ℕ) (z : ZSet K K.cmp) → cut S key s (cut S key t z) ≡ (if t == s then cut S key s z else zero K.cmp) }
+    ensures gathered { IsOrder K.cmp → (S : Shards D) (key : K → D) (z : ZSet K K.cmp) → sum_over (z_sets K.cmp) (λ y. y) (map (λ s. cut S key s z) S.numbers) ≡ z }
+    ensures again { IsOrder K.cmp → (S : Shards D) (key : K → D) (s t : ℕ) (z : ZSet K K.cmp) → cut S key s (cut S key t z) ≡ (if t == s then cut S key s z else zero K.cmp) }
 {}
 
 /// The products of the parts of both sides add up to the product, if two keys have images only if they have the same
 /// key; so do those of the pairs with the same optional keys, cut by columns that tell these keys.
 /// In short: `Σ_s (y|s × z|s) = y × z`.
 pub fn products_add_up_over_shards<D: Ord, J: Ord, K: Ord, L: Ord>()
-    ensures keys { IsAntisymmetric D.cmp → IsAntisymmetric J.cmp → IsAntisymmetric K.cmp → IsAntisymmetric L.cmp
+    ensures keys { FourOrders D.cmp J.cmp K.cmp L.cmp
         → (S : Shards D) (left : J → D) (right : K → D) (f : J → K → List L) → ((j : J) (k : K) → is_eq (D.cmp (left j) (right k)) ≡ false → f j k ≡ [])
         → (y : ZSet J J.cmp) (z : ZSet K K.cmp) → over_shards (z_sets L.cmp) S (λ s. product L.cmp f (cut S left s y) (cut S right s z)) ≡ product L.cmp f y z }
-    ensures optional { IsAntisymmetric D.cmp → IsAntisymmetric J.cmp → IsAntisymmetric K.cmp → IsAntisymmetric L.cmp
+    ensures optional { FourOrders D.cmp J.cmp K.cmp L.cmp
         → (S : Shards D) (left : J → Option D) (right : K → Option D) (pair : J → K → Option L) (left_of : J → D) (right_of : K → D)
         → ((j : J) (c : D) → left j ≡ Some c → left_of j ≡ c) → ((k : K) (c : D) → right k ≡ Some c → right_of k ≡ c) → (y : ZSet J J.cmp) (z : ZSet K K.cmp)
         → over_shards (z_sets L.cmp) S (λ s. product L.cmp (pairs_where D.cmp left right pair) (cut S left_of s y) (cut S right_of s z))
@@ -43,10 +43,10 @@ pub fn products_add_up_over_shards<D: Ord, J: Ord, K: Ord, L: Ord>()
 /// distinct Z-set adds up however it is cut.
 /// In short: `Σ_s F(z|s) = F(z)`.
 pub fn sums_over_keys_add_up_over_shards<K: Ord, C: Ord, D, A>()
-    ensures keys { IsAntisymmetric C.cmp → IsAntisymmetric K.cmp → (S : Shards D) (key : K → D) (fine : K → C) (coarse : C → D)
+    ensures keys { TwoOrders C.cmp K.cmp → (S : Shards D) (key : K → D) (fine : K → C) (coarse : C → D)
         → ((k : K) → key k ≡ coarse (fine k)) → (G : AbelianGroup A) → IsAbelian G → (part : C → ZSet K K.cmp → A) → ((c : C) → part c (zero K.cmp) ≡ G.zero)
         → (z : ZSet K K.cmp) → over_shards G S (λ s. by_key C.cmp fine G part (cut S key s z)) ≡ by_key C.cmp fine G part z }
-    ensures distinct { IsAntisymmetric K.cmp → (S : Shards D) (key : K → D) (z : ZSet K K.cmp) → over_shards (z_sets K.cmp) S (λ s. distinct (cut S key s z)) ≡ distinct z }
+    ensures distinct { IsOrder K.cmp → (S : Shards D) (key : K → D) (z : ZSet K K.cmp) → over_shards (z_sets K.cmp) S (λ s. distinct (cut S key s z)) ≡ distinct z }
 {}
 
 /// If what f gives for the pieces adds up over the shards, so do its changes.
@@ -64,7 +64,7 @@ pub fn one_shard_adds_up<D, A>()
 
 /// Some entry passes a test exactly if one of some part does.
 pub fn entries_over_shards<K: Ord, D>()
-    ensures { IsAntisymmetric K.cmp → (S : Shards D) (key : K → D) (p : K × ℤ → Bool) (z : ZSet K K.cmp) → Any (λ e. IsTrue (p e)) (entries z) ↔ Any (λ s. Any (λ e. IsTrue (p e)) (entries (cut S key s z))) S.numbers }
+    ensures { IsOrder K.cmp → (S : Shards D) (key : K → D) (p : K × ℤ → Bool) (z : ZSet K K.cmp) → Any (λ e. IsTrue (p e)) (entries z) ↔ Any (λ s. Any (λ e. IsTrue (p e)) (entries (cut S key s z))) S.numbers }
 {}
 
 /// Each number below n stands once in the list of the numbers below n, and no other number does.

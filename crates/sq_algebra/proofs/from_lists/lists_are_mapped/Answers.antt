@@ -11,7 +11,7 @@ pub returns-clause-filtered : goal.returns-clause-filtered
 returns-clause-filtered g c = keep-of_list g.K.Ord.cmp g.met.K.Ord.total
 
 pub returns-clause-mapped : goal.returns-clause-mapped
-returns-clause-mapped g c identical one = image-of_list-map g.L.Ord.cmp g.met.L.Ord.total one g.K.Ord.cmp g.met.K.Ord.total identical
+returns-clause-mapped g c orders = image-of_list-map g.L.Ord.cmp g.met.L.Ord.total orders.second g.K.Ord.cmp g.met.K.Ord.total orders.first
 
 pub returns-clause-flat_mapped : goal.returns-clause-flat_mapped
-returns-clause-flat_mapped g c identical one = image-of_list g.L.Ord.cmp g.met.L.Ord.total one g.K.Ord.cmp g.met.K.Ord.total identical
+returns-clause-flat_mapped g c orders = image-of_list g.L.Ord.cmp g.met.L.Ord.total orders.second g.K.Ord.cmp g.met.K.Ord.total orders.first

@@ -8,4 +8,4 @@ pub returns-clause-inside : goal.returns-clause-inside
 returns-clause-inside g c key G laws H others = by_key_inside g.C.Ord.cmp g.K.Ord.cmp key G laws H others
 
 pub returns-clause-one_key : goal.returns-clause-one_key
-returns-clause-one_key g c alike identical key G laws = by_key_at_key g.C.Ord.cmp g.met.C.Ord.total alike g.K.Ord.cmp g.met.K.Ord.total identical key G laws
+returns-clause-one_key g c orders key G laws = by_key_at_key g.C.Ord.cmp g.met.C.Ord.total orders.first g.K.Ord.cmp g.met.K.Ord.total orders.second key G laws

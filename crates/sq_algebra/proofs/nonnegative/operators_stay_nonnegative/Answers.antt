@@ -11,7 +11,7 @@ pub returns-clause-test : goal.returns-clause-test
 returns-clause-test g c = nonnegative-keep g.K.Ord.cmp g.met.K.Ord.total
 
 pub returns-clause-image : goal.returns-clause-image
-returns-clause-image g c identical one = nonnegative-image g.K.Ord.cmp g.met.K.Ord.total identical g.L.Ord.cmp g.met.L.Ord.total one
+returns-clause-image g c orders = nonnegative-image g.K.Ord.cmp g.met.K.Ord.total orders.first g.L.Ord.cmp g.met.L.Ord.total orders.second
 
 pub returns-clause-product : goal.returns-clause-product
-returns-clause-product g c alike identical one = nonnegative-product g.K.Ord.cmp g.met.K.Ord.total identical g.J.Ord.cmp g.met.J.Ord.total alike g.L.Ord.cmp g.met.L.Ord.total one
+returns-clause-product g c orders = nonnegative-product g.K.Ord.cmp g.met.K.Ord.total orders.second g.J.Ord.cmp g.met.J.Ord.total orders.first g.L.Ord.cmp g.met.L.Ord.total orders.third
