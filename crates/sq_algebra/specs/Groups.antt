@@ -3,6 +3,10 @@
 --     minus G a b        the difference.                    times G n a     the multiple of a by the whole number n
 --     sum_over G f xs    the sum of what f gives for the members of a list
 --     IsAdditive G H f   f takes sums of G to sums of H
+--     AreAdditive G H part     so does each map of a family
+--     IsHomomorphism G H f     f is additive and goes from an abelian group to an abelian group
+--     IsBilinear G H F f       f is additive in each of two places and goes to an abelian group
+--     change_of H G f a d      the change of f a by the change d of a
 --     integers, z_sets R     the whole numbers, and the Z-sets over keys in the order R, with their addition
 --     pairs_of G H, functions_to X G      pairs, and functions, of members of groups, with their addition part by part and place by place
 use Rattle.std.specs.Prelude.{◌≡◌, ℕ, zero, suc, List, [], ◌∷◌, ℤ, pos, negsuc, ◌+ℤ◌, neg_ℤ}
@@ -61,3 +65,23 @@ sum_over G f (x ∷ xs) = G.plus (f x) (sum_over G f xs)
 -- f takes sums of G to sums of H
 pub record IsAdditive {A : Type 0} (G : AbelianGroup A) {B : Type 0} (H : AbelianGroup B) (f : A → B) : Type 0 where
   pub of_plus : (a b : A) → f (G.plus a b) ≡ H.plus (f a) (f b)
+
+-- each map of a family takes sums of G to sums of H
+abbrev pub AreAdditive : {A : Type 0} → AbelianGroup A → {B : Type 0} → AbelianGroup B → {C : Type 0} → (C → A → B) → Type 0
+AreAdditive G H {C} part = (c : C) → IsAdditive G H (part c)
+
+-- an additive map between abelian groups
+pub record IsHomomorphism {A : Type 0} (G : AbelianGroup A) {B : Type 0} (H : AbelianGroup B) (f : A → B) : Type 0 where
+  pub from : IsAbelian G
+  pub to : IsAbelian H
+  pub additive : IsAdditive G H f
+
+-- a map to an abelian group that is additive in each of two places
+pub record IsBilinear {A : Type 0} (G : AbelianGroup A) {B : Type 0} (H : AbelianGroup B) {C : Type 0} (F : AbelianGroup C) (f : A → B → C) : Type 0 where
+  pub laws : IsAbelian F
+  pub left : (b : B) → IsAdditive G F (λ a. f a b)
+  pub right : (a : A) → IsAdditive H F (f a)
+
+-- the change of what f gives when d is added
+abbrev pub change_of : {A : Type 0} → AbelianGroup A → {B : Type 0} → AbelianGroup B → (A → B) → A → A → B
+change_of H G f a d = minus G (f (H.plus a d)) (f a)

@@ -4,4 +4,6 @@ pub mod ZSet
 pub mod Groups
 pub mod Operators
 pub mod Keyed
+pub mod KeyedLaws
+pub mod LeftJoins
 pub mod Passing

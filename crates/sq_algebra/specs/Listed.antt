@@ -2,8 +2,9 @@
 --     count R k xs      the number of places of xs that hold k.    is_ascending R xs      whether each key of xs is below all later ones
 --     in_order R xs     the keys of xs, each once, ascending.      changed R before now   the keys whose counts in the two lists differ, ascending
 --     first_of_each R xs     the keys of xs, each once, as they first appear.      among R xs ys, without R xs ys   the keys of xs that ys has, and those that it has not
---     or_one xs x     xs, or x alone where xs has no members
-use Rattle.std.specs.Prelude.{ℕ, List, [], ◌∷◌, ◌++◌, Bool, true, ◌&&◌, ◌==◌, not}
+--     or_one xs x     xs, or x alone if xs has no members
+--     ForgetsOrder step, ForgetsRepeats step     a fold by step depends neither on the order of the members nor on their repeats
+use Rattle.std.specs.Prelude.{◌≡◌, ℕ, List, [], ◌∷◌, ◌++◌, Bool, true, ◌&&◌, ◌==◌, not}
 use Rattle.std.specs.List.{count_by, filter}
 use Rattle.std.specs.declared.cmp.Ordering.{Ordering}
 use Rattle.std.specs.Ordering.{is_eq, is_lt, match_ordering}
@@ -53,3 +54,12 @@ module _ {K : Type 0} (R : K → K → Ordering) where
 
   abbrev pub without : List K → List K → List K
   without xs ys = filter (λ x. count x ys == 0) xs
+
+module _ {B K : Type 0} (step : B → K → B) where
+  -- a fold by step does not depend on the order of the members
+  abbrev pub ForgetsOrder : Type 0
+  ForgetsOrder = (b : B) (x y : K) → step (step b x) y ≡ step (step b y) x
+
+  -- a fold by step does not depend on how often a member stands in the list
+  abbrev pub ForgetsRepeats : Type 0
+  ForgetsRepeats = (b : B) (x : K) → step (step b x) x ≡ step b x

@@ -5,12 +5,17 @@
 --     product U f y z     for each pair of a key of y and a key of z the list of its images under f, with the product of the weights
 --     IsNonNegative z     no key has a weight below 0.             repeated z      each key as often as its weight says
 --     meet y z            the keys of both, with the product of their weights
+--     excluding y z       the keys of y that z has not, with a weight above 0
+--     presence n          1 if n is above 0, and otherwise 0
+--     join U Q left right pair y z       the product of the pairs to which left and right give the same key
+--     cross_terms f y dy z dz            what a product of sums has more than the product of y and z
+--     double_sum G g y z, pair_sum G h f     the linear extension of a function on pairs, and what h gives for the images of a pair, added up
 --     pairs_where Q left right pair      images for a product: what pair gives for two keys to which left and right give the same
 use Rattle.std.specs.Prelude.{List, [], ◌∷◌, map, Bool, cond, if◌then◌else◌, ℤ, pos, ◌*ℤ◌, ◌≤ℤ◌, nat_abs, replicate, int_lt, Option, Some}
 use Rattle.std.specs.List.{filter, flat_map}
 use Rattle.std.specs.declared.cmp.Ordering.{Ordering}
 use Rattle.std.specs.Ordering.{is_eq}
-use Rattle.sq_algebra.specs.ZSet.{ZSet, entries, from_pairs, weight}
+use Rattle.sq_algebra.specs.ZSet.{ZSet, entries, from_pairs, minus, plus, weight}
 use Rattle.sq_algebra.specs.Groups.{AbelianGroup, times, sum_over}
 
 -- each member of a list with the weight n
@@ -59,3 +64,29 @@ where_same Q _ _ _ = []
 -- what pair gives for two keys to which left and right give the same, and nothing else
 abbrev pub pairs_where : {J K C L : Type 0} → (C → C → Ordering) → (J → Option C) → (K → Option C) → (J → K → Option L) → J → K → List L
 pairs_where Q left right pair j k = where_same Q (left j) (right k) (pair j k)
+
+-- the product of the pairs of keys to which left and right give the same
+abbrev pub join : {J K C L : Type 0} {S : J → J → Ordering} {R : K → K → Ordering} (U : L → L → Ordering) (Q : C → C → Ordering)
+    → (J → Option C) → (K → Option C) → (J → K → Option L) → ZSet J S → ZSet K R → ZSet L U
+join U Q left right pair y z = product U (pairs_where Q left right pair) y z
+
+-- the keys of y without those that have a weight above 0 in z
+abbrev pub excluding : {K : Type 0} {R : K → K → Ordering} → ZSet K R → ZSet K R → ZSet K R
+excluding y z = minus y (meet y (distinct z))
+
+-- the weight in a distinct Z-set of a key with the weight n
+abbrev pub presence : ℤ → ℤ
+presence n = if int_lt (pos 0) n then pos 1 else pos 0
+
+-- y × dz + dy × z + dy × dz, for an f in the place of ×
+abbrev pub cross_terms : {J K L : Type 0} {S : J → J → Ordering} {R : K → K → Ordering} {U : L → L → Ordering}
+    → (ZSet J S → ZSet K R → ZSet L U) → ZSet J S → ZSet J S → ZSet K R → ZSet K R → ZSet L U
+cross_terms f y dy z dz = plus (plus (f y dz) (f dy z)) (f dy dz)
+
+-- the sum over the pairs of keys of y and z of what g gives for them, as often as the product of their weights says
+abbrev pub double_sum : {A : Type 0} → AbelianGroup A → {J K : Type 0} {S : J → J → Ordering} {R : K → K → Ordering} → (J → K → A) → ZSet J S → ZSet K R → A
+double_sum G g y z = lin G (λ j. lin G (λ k. g j k) z) y
+
+-- the sum of what h gives for the images of a pair of keys
+abbrev pub pair_sum : {A : Type 0} → AbelianGroup A → {J K L : Type 0} → (L → A) → (J → K → List L) → J → K → A
+pair_sum G h f j k = sum_over G h (f j k)

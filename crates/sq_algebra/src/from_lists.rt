@@ -1,13 +1,15 @@
 //! What is done to lists, as it is done to their Z-sets.
 
-ghost use Rattle.std.specs.Prelude.{◌≡◌, ◌+◌, List, [], ◌∷◌, ◌++◌, map, Bool, not, ◌==◌, if◌then◌else◌};
-ghost use Rattle.std.specs.List.{filter, flat_map, fold, list_any};
+ghost use Rattle.std.specs.Prelude.{◌≡◌, ◌+◌, List, [], ◌∷◌, ◌++◌, map, Bool, ◌==◌, if◌then◌else◌};
+ghost use Rattle.std.specs.List.{filter, flat_map, fold};
 ghost use Rattle.sq_algebra.specs.Orders.{IsOrder, TwoOrders, ThreeOrders};
-ghost use Rattle.sq_algebra.specs.Listed.{or_one, count, in_order, first_of_each, among, without};
-ghost use Rattle.sq_algebra.specs.ZSet.{ZSet, zero, single, of_list, plus, minus};
-ghost use Rattle.sq_algebra.specs.Groups.{AbelianGroup, IsAbelian, z_sets, sum_over};
-ghost use Rattle.sq_algebra.specs.Operators.{image, keep, distinct, product, meet};
+ghost use Rattle.sq_algebra.specs.Listed.{count, in_order, first_of_each, among, without, ForgetsOrder, ForgetsRepeats};
+ghost use Rattle.sq_algebra.specs.ZSet.{zero, single, of_list, plus};
+ghost use Rattle.sq_algebra.specs.Groups.{AbelianGroup, IsAbelian, z_sets};
+ghost use Rattle.sq_algebra.specs.Operators.{image, keep, distinct, product, meet, excluding};
 ghost use Rattle.sq_algebra.specs.Keyed.{at_key, CoversOnce, by_key, members_at, groups_by};
+ghost use Rattle.sq_algebra.specs.LeftJoins.{LeftJoin, left_join, padded_product, has_no_match, matching};
+ghost use Rattle.sq_algebra.specs.KeyedLaws.{GroupMap, GroupValue, sum_over_groups};
 
 /// The Z-set of no members, of one member, and of a filtered, a mapped and a flat-mapped list.
 pub fn lists_are_mapped<K: Ord, L: Ord>()
@@ -29,7 +31,7 @@ pub fn nested_loops_are_products<J: Ord, K: Ord, L: Ord>()
 pub fn lists_without_repeats<K: Ord>()
     ensures first { IsOrder K.cmp → (xs : List K) → distinct (of_list K.cmp xs) ≡ of_list K.cmp (first_of_each K.cmp xs) }
     ensures among { IsOrder K.cmp → (xs ys : List K) → of_list K.cmp (among K.cmp xs ys) ≡ meet (of_list K.cmp xs) (distinct (of_list K.cmp ys)) }
-    ensures without { IsOrder K.cmp → (xs ys : List K) → of_list K.cmp (without K.cmp xs ys) ≡ minus (of_list K.cmp xs) (meet (of_list K.cmp xs) (distinct (of_list K.cmp ys))) }
+    ensures without { IsOrder K.cmp → (xs ys : List K) → of_list K.cmp (without K.cmp xs ys) ≡ excluding (of_list K.cmp xs) (of_list K.cmp ys) }
 {}
 
 /// How often a key stands in a list without repeats, among the members that another list has, and among those that it
@@ -46,8 +48,7 @@ pub fn repeats_are_counted<K: Ord>()
 pub fn set_operations<K: Ord>()
     ensures union { IsOrder K.cmp → (xs ys : List K) → of_list K.cmp (first_of_each K.cmp (xs ++ ys)) ≡ distinct (plus (of_list K.cmp xs) (of_list K.cmp ys)) }
     ensures intersection { IsOrder K.cmp → (xs ys : List K) → of_list K.cmp (among K.cmp (first_of_each K.cmp xs) ys) ≡ meet (distinct (of_list K.cmp xs)) (distinct (of_list K.cmp ys)) }
-    ensures difference { IsOrder K.cmp → (xs ys : List K) → of_list K.cmp (without K.cmp (first_of_each K.cmp xs) ys)
-        ≡ minus (distinct (of_list K.cmp xs)) (meet (distinct (of_list K.cmp xs)) (distinct (of_list K.cmp ys))) }
+    ensures difference { IsOrder K.cmp → (xs ys : List K) → of_list K.cmp (without K.cmp (first_of_each K.cmp xs) ys) ≡ excluding (distinct (of_list K.cmp xs)) (of_list K.cmp ys) }
     ensures count_union { (k : K) (xs ys : List K) → count K.cmp k (first_of_each K.cmp (xs ++ ys)) ≡ (if count K.cmp k xs + count K.cmp k ys == 0 then 0 else 1) }
     ensures count_intersection { (k : K) (xs ys : List K) → count K.cmp k (among K.cmp (first_of_each K.cmp xs) ys) ≡ (if count K.cmp k ys == 0 then 0 else if count K.cmp k xs == 0 then 0 else 1) }
     ensures count_difference { (k : K) (xs ys : List K) → count K.cmp k (without K.cmp (first_of_each K.cmp xs) ys) ≡ (if count K.cmp k ys == 0 then (if count K.cmp k xs == 0 then 0 else 1) else 0) }
@@ -56,25 +57,18 @@ pub fn set_operations<K: Ord>()
 /// Nested loops that give a padded row for each left member without a match are the product and the padded rest; and
 /// the left members without a match are found by those of the pairs.
 pub fn padded_loops_are_products<J: Ord, K: Ord, L: Ord>()
-    ensures padded { ThreeOrders J.cmp K.cmp L.cmp
-        → (matches : J → K → Bool) (joined : J → K → L) (padded : J → L) (xs : List J) (ys : List K)
-        → of_list L.cmp (flat_map (λ x. or_one (map (joined x) (filter (matches x) ys)) (padded x)) xs)
-        ≡ plus (product L.cmp (λ x y. if matches x y then joined x y ∷ [] else []) (of_list J.cmp xs) (of_list K.cmp ys)) (image L.cmp (λ x. padded x ∷ []) (keep (λ x. not (list_any (matches x) ys)) (of_list J.cmp xs))) }
-    ensures unmatched { TwoOrders J.cmp K.cmp → (matches : J → K → Bool) (xs : List J) (ys : List K)
-        → keep (λ x. not (list_any (matches x) ys)) (of_list J.cmp xs)
-        ≡ minus (of_list J.cmp xs) (meet (of_list J.cmp xs) (distinct (product J.cmp (λ x y. if matches x y then x ∷ [] else []) (of_list J.cmp xs) (of_list K.cmp ys)))) }
+    ensures padded { ThreeOrders J.cmp K.cmp L.cmp → (by : LeftJoin J K L) (xs : List J) (ys : List K)
+        → of_list L.cmp (left_join by xs ys) ≡ padded_product L.cmp by (of_list J.cmp xs) (of_list K.cmp ys) ys }
+    ensures unmatched { TwoOrders J.cmp K.cmp → (test : J → K → Bool) (xs : List J) (ys : List K)
+        → keep (has_no_match test ys) (of_list J.cmp xs) ≡ excluding (of_list J.cmp xs) (matching test (of_list J.cmp xs) (of_list K.cmp ys)) }
 {}
 
 /// What the groups of a list give is the sum over the keys of its Z-set, if an empty group gives nothing.
 pub fn groups_are_sums_over_keys<C: Ord, K: Ord, L: Ord, A>()
-    ensures lists { ThreeOrders C.cmp K.cmp L.cmp
-        → (key : K → C) (out : C → List K → List L) (part : C → ZSet K K.cmp → ZSet L L.cmp)
-        → ((c : C) (xs : List K) → of_list L.cmp (out c xs) ≡ part c (of_list K.cmp xs)) → ((c : C) → out c [] ≡ []) → (xs : List K)
-        → of_list L.cmp (groups_by C.cmp key out xs) ≡ by_key C.cmp key (z_sets L.cmp) part (of_list K.cmp xs) }
-    ensures sums { TwoOrders C.cmp K.cmp → (key : K → C) (G : AbelianGroup A) → IsAbelian G
-        → (value : C → List K → A) (part : C → ZSet K K.cmp → A) → ((c : C) (xs : List K) → value c xs ≡ part c (of_list K.cmp xs))
-        → ((c : C) → value c [] ≡ G.zero) → (xs : List K) → sum_over G (λ c. value c (members_at C.cmp key c xs)) (first_of_each C.cmp (map key xs))
-        ≡ by_key C.cmp key G part (of_list K.cmp xs) }
+    ensures lists { ThreeOrders C.cmp K.cmp L.cmp → (key : K → C) (f : GroupMap C K.cmp L.cmp) (xs : List K)
+        → of_list L.cmp (groups_by C.cmp key f.out xs) ≡ by_key C.cmp key (z_sets L.cmp) f.part (of_list K.cmp xs) }
+    ensures sums { TwoOrders C.cmp K.cmp → (key : K → C) (G : AbelianGroup A) → IsAbelian G → (f : GroupValue C K.cmp G) (xs : List K)
+        → sum_over_groups G C.cmp key f.value xs ≡ by_key C.cmp key G f.part (of_list K.cmp xs) }
     ensures part { TwoOrders C.cmp K.cmp → (key : K → C) (c : C) (xs : List K) → at_key C.cmp key c (of_list K.cmp xs) ≡ of_list K.cmp (members_at C.cmp key c xs) }
     ensures cover { TwoOrders C.cmp K.cmp → (key : K → C) (xs : List K) → CoversOnce C.cmp key (first_of_each C.cmp (map key xs)) (of_list K.cmp xs) }
 {}
@@ -82,6 +76,5 @@ pub fn groups_are_sums_over_keys<C: Ord, K: Ord, L: Ord, A>()
 /// A fold whose steps may change places and be repeated, as one for the least or the greatest member, depends on which
 /// keys a list has alone.
 pub fn folds_of_members<K: Ord, B>()
-    ensures { IsOrder K.cmp → (step : B → K → B) → ((b : B) (x y : K) → step (step b x) y ≡ step (step b y) x)
-        → ((b : B) (x : K) → step (step b x) x ≡ step b x) → (b : B) (xs : List K) → fold step b (in_order K.cmp xs) ≡ fold step b xs }
+    ensures { IsOrder K.cmp → (step : B → K → B) → ForgetsOrder step → ForgetsRepeats step → (b : B) (xs : List K) → fold step b (in_order K.cmp xs) ≡ fold step b xs }
 {}

@@ -3,7 +3,7 @@
 ghost use Rattle.std.specs.Prelude.{◌≡◌, ℤ, pos, ◌+ℤ◌, ◌*ℤ◌, neg_ℤ, List, ◌++◌, map, Bool, if◌then◌else◌};
 ghost use Rattle.std.specs.List.{All, filter, flat_map};
 ghost use Rattle.sq_algebra.specs.Orders.{IsOrder};
-ghost use Rattle.sq_algebra.specs.Groups.{AbelianGroup, IsAbelian, IsAdditive, pairs_of, functions_to, integers, z_sets, times, sum_over, minus};
+ghost use Rattle.sq_algebra.specs.Groups.{AbelianGroup, IsAbelian, IsAdditive, pairs_of, functions_to, integers, z_sets, times, sum_over, minus, IsHomomorphism, IsBilinear};
 
 /// The whole numbers are an abelian group, and the multiple of one by another is their product.
 pub fn integers_are_a_group()
@@ -64,11 +64,11 @@ pub fn multiples_add<A>()
 /// An additive map keeps zero, negations, differences and multiples, and goes inside a sum over a list.
 /// In short: `f(0) = 0`, `f(-a) = -f(a)`, `f(a - b) = f(a) - f(b)`, `f(na) = n f(a)`, `f(Σ g) = Σ f(g)`.
 pub fn additive_maps<A, B, X>()
-    ensures zero { (G : AbelianGroup A) (H : AbelianGroup B) → IsAbelian G → IsAbelian H → (f : A → B) → IsAdditive G H f → f G.zero ≡ H.zero }
-    ensures negation { (G : AbelianGroup A) (H : AbelianGroup B) → IsAbelian G → IsAbelian H → (f : A → B) → IsAdditive G H f → (a : A) → f (G.negate a) ≡ H.negate (f a) }
-    ensures difference { (G : AbelianGroup A) (H : AbelianGroup B) → IsAbelian G → IsAbelian H → (f : A → B) → IsAdditive G H f → (a b : A) → f (minus G a b) ≡ minus H (f a) (f b) }
-    ensures multiple { (G : AbelianGroup A) (H : AbelianGroup B) → IsAbelian G → IsAbelian H → (f : A → B) → IsAdditive G H f → (n : ℤ) (a : A) → f (times G n a) ≡ times H n (f a) }
-    ensures sum { (G : AbelianGroup A) (H : AbelianGroup B) → IsAbelian G → IsAbelian H → (f : A → B) → IsAdditive G H f → (g : X → A) (xs : List X) → f (sum_over G g xs) ≡ sum_over H (λ x. f (g x)) xs }
+    ensures zero { (G : AbelianGroup A) (H : AbelianGroup B) (f : A → B) → IsHomomorphism G H f → f G.zero ≡ H.zero }
+    ensures negation { (G : AbelianGroup A) (H : AbelianGroup B) (f : A → B) → IsHomomorphism G H f → (a : A) → f (G.negate a) ≡ H.negate (f a) }
+    ensures difference { (G : AbelianGroup A) (H : AbelianGroup B) (f : A → B) → IsHomomorphism G H f → (a b : A) → f (minus G a b) ≡ minus H (f a) (f b) }
+    ensures multiple { (G : AbelianGroup A) (H : AbelianGroup B) (f : A → B) → IsHomomorphism G H f → (n : ℤ) (a : A) → f (times G n a) ≡ times H n (f a) }
+    ensures sum { (G : AbelianGroup A) (H : AbelianGroup B) (f : A → B) → IsHomomorphism G H f → (g : X → A) (xs : List X) → f (sum_over G g xs) ≡ sum_over H (λ x. f (g x)) xs }
 {}
 
 /// Additive maps: one after another, their sum and their negation, and the map to zero.
@@ -83,9 +83,8 @@ pub fn additive_maps_compose<A, B, C>()
 /// The change of a map that is additive in each of two places, by the changes of these.
 /// In short: `f(a + Δa, b + Δb) - f(a, b) = f(a, Δb) + f(Δa, b) + f(Δa, Δb)`.
 pub fn bilinear_maps_change<A, B, C>()
-    ensures { (G : AbelianGroup A) (H : AbelianGroup B) (F : AbelianGroup C) → IsAbelian F → (f : A → B → C) → ((b : B) → IsAdditive G F (λ a. f a b))
-        → ((a : A) → IsAdditive H F (f a)) → (a da : A) (b db : B) → minus F (f (G.plus a da) (H.plus b db)) (f a b)
-        ≡ F.plus (F.plus (f a db) (f da b)) (f da db) }
+    ensures { (G : AbelianGroup A) (H : AbelianGroup B) (F : AbelianGroup C) (f : A → B → C) → IsBilinear G H F f → (a x : A) (b y : B)
+        → minus F (f (G.plus a x) (H.plus b y)) (f a b) ≡ F.plus (F.plus (f a y) (f x b)) (f x y) }
 {}
 
 /// Sums over joined, filtered and mapped lists, and the two sums of a double sum in the other order.

@@ -1,23 +1,22 @@
 //! Z-sets parted by a key of their keys.
 
-ghost use Rattle.std.specs.Prelude.{◌≡◌, pos, Option, Some, List, [], Bool, false, ◌⊎◌, int_lt, if◌then◌else◌};
+ghost use Rattle.std.specs.Prelude.{◌≡◌, pos, Option, List, Bool, ◌⊎◌, int_lt, if◌then◌else◌};
 ghost use Rattle.std.specs.Ordering.{is_eq};
-ghost use Rattle.std.specs.declared.cmp.Ordering.{Ordering};
-ghost use Rattle.sq_algebra.specs.Orders.{IsOrder, TwoOrders, ThreeOrders, FourOrders};
+ghost use Rattle.sq_algebra.specs.Orders.{IsOrder, TwoOrders, ThreeOrders, FourOrders, Order};
 ghost use Rattle.sq_algebra.specs.Listed.{count};
-ghost use Rattle.sq_algebra.specs.ZSet.{ZSet, zero, single, weight, plus, minus};
-ghost use Rattle.sq_algebra.specs.Groups.{AbelianGroup, IsAbelian, IsAdditive, z_sets, minus as minus_in, sum_over};
-ghost use Rattle.sq_algebra.specs.Operators.{lin, keep, distinct, product, pairs_where};
-ghost use Rattle.sq_algebra.specs.Keyed.{at_key, keys_of, CoversOnce, by_key, at_some_key, some_keys_of, CoversSomeOnce};
+ghost use Rattle.sq_algebra.specs.ZSet.{ZSet, zero, single, weight};
+ghost use Rattle.sq_algebra.specs.Groups.{AbelianGroup, IsAbelian, IsAdditive, z_sets, sum_over, AreAdditive, IsHomomorphism};
+ghost use Rattle.sq_algebra.specs.Operators.{lin, keep, distinct, product, pairs_where, join};
+ghost use Rattle.sq_algebra.specs.Keyed.{at_key, keys_of, CoversOnce, by_key, some_keys_of, CoversSomeOnce};
+ghost use Rattle.sq_algebra.specs.KeyedLaws.{Coarser, SomeKey, OnlySameKeys, IsSummable, under, only_at, AddsUpBy, AgreesOnParts, SumsOverCovers, ChangesByKey, LeftPartsAddUp, RightPartsAddUp, LeftSomePartsAddUp, RightSomePartsAddUp, ChangesBySomeKey};
 
 /// The part of one key: its weights, that taking it is additive, and the part of a part.
 pub fn parts_are_linear<C: Ord, K: Ord, D>()
     ensures weights { TwoOrders C.cmp K.cmp → (key : K → C) (k : K) (c : C) (z : ZSet K K.cmp) → weight k (at_key C.cmp key c z) ≡ (if is_eq (C.cmp c (key k)) then weight k z else pos 0) }
     ensures additive { TwoOrders C.cmp K.cmp → (key : K → C) (c : C) → IsAdditive (z_sets K.cmp) (z_sets K.cmp) (at_key C.cmp key c) }
     ensures none { TwoOrders C.cmp K.cmp → (key : K → C) (c : C) → at_key C.cmp key c (zero K.cmp) ≡ zero K.cmp }
-    ensures part { TwoOrders C.cmp K.cmp → (key : K → C) (P : D → D → Ordering) (place : K → D) (inner : C → D)
-        → ((k : K) → place k ≡ inner (key k)) → (c : C) (d : D) (z : ZSet K K.cmp) → at_key C.cmp key c (at_key P place d z)
-        ≡ (if is_eq (P d (inner c)) then at_key C.cmp key c z else zero K.cmp) }
+    ensures part { TwoOrders C.cmp K.cmp → (key : K → C) (P : Order D) (outer : Coarser key D) (c : C) (d : D) (z : ZSet K K.cmp)
+        → at_key C.cmp key c (at_key P outer.place d z) ≡ only_at P d (outer.inner c) (at_key C.cmp key c z) }
 {}
 
 /// The keys that a Z-set has, ascending, cover it. A list covers it exactly if each key with a weight has its own in
@@ -38,8 +37,8 @@ pub fn covers_are_covers<C: Ord, K: Ord>()
 /// In short: `Σ_c z|c = z` and `Σ_c f(z|c) = f(z)`.
 pub fn parts_add_up<C: Ord, K: Ord, A>()
     ensures whole { TwoOrders C.cmp K.cmp → (key : K → C) (cs : List C) (z : ZSet K K.cmp) → CoversOnce C.cmp key cs z → sum_over (z_sets K.cmp) (λ c. at_key C.cmp key c z) cs ≡ z }
-    ensures additive { TwoOrders C.cmp K.cmp → (key : K → C) (G : AbelianGroup A) → IsAbelian G → (f : ZSet K K.cmp → A)
-        → IsAdditive (z_sets K.cmp) G f → (cs : List C) (z : ZSet K K.cmp) → CoversOnce C.cmp key cs z → sum_over G (λ c. f (at_key C.cmp key c z)) cs ≡ f z }
+    ensures additive { TwoOrders C.cmp K.cmp → (key : K → C) (G : AbelianGroup A) → IsAbelian G → (f : ZSet K K.cmp → A) → IsAdditive (z_sets K.cmp) G f
+        → AddsUpBy C.cmp key G f }
 {}
 
 /// A sum over the keys, if the part over no keys is zero: it is the sum over any list of keys that covers the Z-set;
@@ -47,32 +46,28 @@ pub fn parts_add_up<C: Ord, K: Ord, A>()
 /// keys of the change.
 /// In short: with `F(z) = Σ_c P c (z|c)`, `F(z + d) - F(z) = Σ_c (P c ((z + d)|c) - P c (z|c))` over the keys of `d`.
 pub fn sums_over_keys<C: Ord, K: Ord, A>()
-    ensures cover { TwoOrders C.cmp K.cmp → (key : K → C) (G : AbelianGroup A) → IsAbelian G → (part : C → ZSet K K.cmp → A)
-        → ((c : C) → part c (zero K.cmp) ≡ G.zero) → (cs : List C) (z : ZSet K K.cmp) → CoversOnce C.cmp key cs z → by_key C.cmp key G part z
-        ≡ sum_over G (λ c. part c (at_key C.cmp key c z)) cs }
-    ensures none { TwoOrders C.cmp K.cmp → (key : K → C) (G : AbelianGroup A) → IsAbelian G → (part : C → ZSet K K.cmp → A)
-        → ((c : C) → part c (zero K.cmp) ≡ G.zero) → by_key C.cmp key G part (zero K.cmp) ≡ G.zero }
-    ensures change { TwoOrders C.cmp K.cmp → (key : K → C) (G : AbelianGroup A) → IsAbelian G → (part : C → ZSet K K.cmp → A)
-        → ((c : C) → part c (zero K.cmp) ≡ G.zero) → (cs : List C) (z d : ZSet K K.cmp) → CoversOnce C.cmp key cs d
-        → minus_in G (by_key C.cmp key G part (plus z d)) (by_key C.cmp key G part z)
-        ≡ sum_over G (λ c. minus_in G (part c (at_key C.cmp key c (plus z d))) (part c (at_key C.cmp key c z))) cs }
+    ensures cover { TwoOrders C.cmp K.cmp → (key : K → C) (G : AbelianGroup A) (part : C → ZSet K K.cmp → A) → IsSummable G part
+        → SumsOverCovers C.cmp key G part (by_key C.cmp key G part) }
+    ensures none { TwoOrders C.cmp K.cmp → (key : K → C) (G : AbelianGroup A) (part : C → ZSet K K.cmp → A) → IsSummable G part
+        → by_key C.cmp key G part (zero K.cmp) ≡ G.zero }
+    ensures change { TwoOrders C.cmp K.cmp → (key : K → C) (G : AbelianGroup A) (part : C → ZSet K K.cmp → A) → IsSummable G part
+        → ChangesByKey C.cmp key G part (by_key C.cmp key G part) }
 {}
 
 /// Parts that agree have the same sum over the keys; an additive map goes inside it; and over the part of one key only
 /// what is given for this key is left.
 pub fn sums_over_keys_of_parts<C: Ord, K: Ord, A, B>()
     ensures same { (key : K → C) (G : AbelianGroup A) (part other : C → ZSet K K.cmp → A) → ((c : C) (y : ZSet K K.cmp) → part c y ≡ other c y) → (z : ZSet K K.cmp) → by_key C.cmp key G part z ≡ by_key C.cmp key G other z }
-    ensures inside { (key : K → C) (G : AbelianGroup A) → IsAbelian G → (H : AbelianGroup B) → IsAbelian H → (f : A → B) → IsAdditive G H f
-        → (part : C → ZSet K K.cmp → A) (z : ZSet K K.cmp) → f (by_key C.cmp key G part z) ≡ by_key C.cmp key H (λ c y. f (part c y)) z }
-    ensures one_key { TwoOrders C.cmp K.cmp → (key : K → C) (G : AbelianGroup A) → IsAbelian G → (part : C → ZSet K K.cmp → A)
-        → ((c : C) → part c (zero K.cmp) ≡ G.zero) → (c : C) (z : ZSet K K.cmp) → by_key C.cmp key G part (at_key C.cmp key c z)
-        ≡ part c (at_key C.cmp key c z) }
+    ensures inside { (key : K → C) (G : AbelianGroup A) (H : AbelianGroup B) (f : A → B) → IsHomomorphism G H f → (part : C → ZSet K K.cmp → A)
+        (z : ZSet K K.cmp) → f (by_key C.cmp key G part z) ≡ by_key C.cmp key H (under f part) z }
+    ensures one_key { TwoOrders C.cmp K.cmp → (key : K → C) (G : AbelianGroup A) (part : C → ZSet K K.cmp → A) → IsSummable G part
+        → AgreesOnParts C.cmp key part (by_key C.cmp key G part) }
 {}
 
 /// A sum over the keys of additive parts is additive, and one of linear extensions is a linear extension.
 pub fn sums_over_keys_are_linear<C: Ord, K: Ord, A>()
-    ensures additive { TwoOrders C.cmp K.cmp → (key : K → C) (G : AbelianGroup A) → IsAbelian G
-        → (part : C → ZSet K K.cmp → A) → ((c : C) → IsAdditive (z_sets K.cmp) G (part c)) → IsAdditive (z_sets K.cmp) G (by_key C.cmp key G part) }
+    ensures additive { TwoOrders C.cmp K.cmp → (key : K → C) (G : AbelianGroup A) → IsAbelian G → (part : C → ZSet K K.cmp → A)
+        → AreAdditive (z_sets K.cmp) G part → IsAdditive (z_sets K.cmp) G (by_key C.cmp key G part) }
     ensures extension { TwoOrders C.cmp K.cmp → (key : K → C) (G : AbelianGroup A) → IsAbelian G
         → (h : C → K → A) (z : ZSet K K.cmp) → by_key C.cmp key G (λ c y. lin G (h c) y) z ≡ lin G (λ k. h (key k) k) z }
 {}
@@ -81,58 +76,38 @@ pub fn sums_over_keys_are_linear<C: Ord, K: Ord, A>()
 /// coarser one.
 /// In short: `Σ_d F(z|d) = F(z)`.
 pub fn sums_over_keys_add_up<C: Ord, K: Ord, D: Ord, A>()
-    ensures { ThreeOrders C.cmp K.cmp D.cmp → (key : K → C) (place : K → D) (inner : C → D)
-        → ((k : K) → place k ≡ inner (key k)) → (G : AbelianGroup A) → IsAbelian G → (part : C → ZSet K K.cmp → A) → ((c : C) → part c (zero K.cmp) ≡ G.zero)
-        → (ds : List D) (z : ZSet K K.cmp) → CoversOnce D.cmp place ds z → sum_over G (λ d. by_key C.cmp key G part (at_key D.cmp place d z)) ds
-        ≡ by_key C.cmp key G part z }
+    ensures { ThreeOrders C.cmp K.cmp D.cmp → (key : K → C) (outer : Coarser key D) (G : AbelianGroup A) (part : C → ZSet K K.cmp → A)
+        → IsSummable G part → AddsUpBy D.cmp outer.place G (by_key C.cmp key G part) }
 {}
 
 /// If two keys have images only if they have the same key, the products of the parts by the keys of a cover of one
 /// side add up to the product.
 /// In short: `Σ_c (y|c × z|c) = y × z`.
 pub fn products_add_up_by_key<C: Ord, J: Ord, K: Ord, L: Ord>()
-    ensures left { FourOrders C.cmp J.cmp K.cmp L.cmp
-        → (left : J → C) (right : K → C) (f : J → K → List L) → ((j : J) (k : K) → is_eq (C.cmp (left j) (right k)) ≡ false → f j k ≡ [])
-        → (cs : List C) (y : ZSet J J.cmp) (z : ZSet K K.cmp) → CoversOnce C.cmp left cs y
-        → sum_over (z_sets L.cmp) (λ c. product L.cmp f (at_key C.cmp left c y) (at_key C.cmp right c z)) cs ≡ product L.cmp f y z }
-    ensures right { FourOrders C.cmp J.cmp K.cmp L.cmp
-        → (left : J → C) (right : K → C) (f : J → K → List L) → ((j : J) (k : K) → is_eq (C.cmp (left j) (right k)) ≡ false → f j k ≡ [])
-        → (cs : List C) (y : ZSet J J.cmp) (z : ZSet K K.cmp) → CoversOnce C.cmp right cs z
-        → sum_over (z_sets L.cmp) (λ c. product L.cmp f (at_key C.cmp left c y) (at_key C.cmp right c z)) cs ≡ product L.cmp f y z }
+    ensures left { FourOrders C.cmp J.cmp K.cmp L.cmp → (left : J → C) (right : K → C) (f : J → K → List L)
+        → OnlySameKeys C.cmp left right f → LeftPartsAddUp C.cmp J.cmp K.cmp left right (product L.cmp f) }
+    ensures right { FourOrders C.cmp J.cmp K.cmp L.cmp → (left : J → C) (right : K → C) (f : J → K → List L)
+        → OnlySameKeys C.cmp left right f → RightPartsAddUp C.cmp J.cmp K.cmp left right (product L.cmp f) }
 {}
 
 /// The change of the product of the pairs with the same optional keys, key by key of a list that covers the changes of
 /// both sides.
 /// In short: `Δ(y ⋈ z) = Σ_c (y|c ⋈ Δz|c + Δy|c ⋈ z|c + Δy|c ⋈ Δz|c)`.
 pub fn joins_change_by_key<C: Ord, J: Ord, K: Ord, L: Ord>()
-    ensures { FourOrders C.cmp J.cmp K.cmp L.cmp
-        → (left : J → Option C) (right : K → Option C) (pair : J → K → Option L) (cs : List C) (y dy : ZSet J J.cmp) (z dz : ZSet K K.cmp)
-        → CoversSomeOnce C.cmp left cs dy → CoversSomeOnce C.cmp right cs dz
-        → minus (product L.cmp (pairs_where C.cmp left right pair) (plus y dy) (plus z dz)) (product L.cmp (pairs_where C.cmp left right pair) y z)
-        ≡ sum_over (z_sets L.cmp) (λ c. plus (plus
-        (product L.cmp (pairs_where C.cmp left right pair) (at_some_key C.cmp left c y) (at_some_key C.cmp right c dz))
-        (product L.cmp (pairs_where C.cmp left right pair) (at_some_key C.cmp left c dy) (at_some_key C.cmp right c z)))
-        (product L.cmp (pairs_where C.cmp left right pair) (at_some_key C.cmp left c dy) (at_some_key C.cmp right c dz))) cs }
+    ensures { FourOrders C.cmp J.cmp K.cmp L.cmp → (left : J → Option C) (right : K → Option C) (pair : J → K → Option L)
+        → ChangesBySomeKey C.cmp J.cmp K.cmp left right (join L.cmp C.cmp left right pair) }
 {}
 
 /// The products of the parts add up also for the pairs with the same optional keys, by the keys of a list that covers
 /// those of one side, as the keys that are there do. Two keys without a common key have no image.
 pub fn products_add_up_by_optional_key<C: Ord, J: Ord, K: Ord, L: Ord>()
-    ensures left { FourOrders C.cmp J.cmp K.cmp L.cmp
-        → (left : J → Option C) (right : K → Option C) (pair : J → K → Option L) (cs : List C) (y : ZSet J J.cmp) (z : ZSet K K.cmp)
-        → CoversSomeOnce C.cmp left cs y
-        → sum_over (z_sets L.cmp) (λ c. product L.cmp (pairs_where C.cmp left right pair) (at_some_key C.cmp left c y) (at_some_key C.cmp right c z)) cs
-        ≡ product L.cmp (pairs_where C.cmp left right pair) y z }
-    ensures right { FourOrders C.cmp J.cmp K.cmp L.cmp
-        → (left : J → Option C) (right : K → Option C) (pair : J → K → Option L) (cs : List C) (y : ZSet J J.cmp) (z : ZSet K K.cmp)
-        → CoversSomeOnce C.cmp right cs z
-        → sum_over (z_sets L.cmp) (λ c. product L.cmp (pairs_where C.cmp left right pair) (at_some_key C.cmp left c y) (at_some_key C.cmp right c z)) cs
-        ≡ product L.cmp (pairs_where C.cmp left right pair) y z }
+    ensures left { FourOrders C.cmp J.cmp K.cmp L.cmp → (left : J → Option C) (right : K → Option C) (pair : J → K → Option L)
+        → LeftSomePartsAddUp C.cmp J.cmp K.cmp left right (join L.cmp C.cmp left right pair) }
+    ensures right { FourOrders C.cmp J.cmp K.cmp L.cmp → (left : J → Option C) (right : K → Option C) (pair : J → K → Option L)
+        → RightSomePartsAddUp C.cmp J.cmp K.cmp left right (join L.cmp C.cmp left right pair) }
     ensures cover { (key : K → Option C) (z : ZSet K K.cmp) → CoversSomeOnce C.cmp key (some_keys_of C.cmp key z) z }
-    ensures apart { FourOrders C.cmp J.cmp K.cmp L.cmp
-        → (left : J → Option C) (right : K → Option C) (pair : J → K → Option L) (left_of : J → C) (right_of : K → C)
-        → ((j : J) (c : C) → left j ≡ Some c → left_of j ≡ c) → ((k : K) (c : C) → right k ≡ Some c → right_of k ≡ c) → (j : J) (k : K)
-        → is_eq (C.cmp (left_of j) (right_of k)) ≡ false → pairs_where C.cmp left right pair j k ≡ [] }
+    ensures apart { FourOrders C.cmp J.cmp K.cmp L.cmp → (left : SomeKey J C) (right : SomeKey K C) (pair : J → K → Option L)
+        → OnlySameKeys C.cmp left.cell right.cell (pairs_where C.cmp left.key right.key pair) }
 {}
 
 /// The distinct Z-set is a sum over the keys themselves.

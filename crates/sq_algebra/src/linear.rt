@@ -5,7 +5,7 @@ ghost use Rattle.std.specs.List.{All};
 ghost use Rattle.std.specs.Ordering.{is_eq};
 ghost use Rattle.sq_algebra.specs.Orders.{IsOrder, TwoOrders};
 ghost use Rattle.sq_algebra.specs.ZSet.{ZSet, entries, zero, single, of_list, weight, total, plus, negate, minus};
-ghost use Rattle.sq_algebra.specs.Groups.{AbelianGroup, IsAbelian, IsAdditive, integers, z_sets, minus as minus_in, times, sum_over};
+ghost use Rattle.sq_algebra.specs.Groups.{AbelianGroup, IsAbelian, IsAdditive, integers, z_sets, minus as minus_in, times, sum_over, IsHomomorphism};
 ghost use Rattle.sq_algebra.specs.Operators.{lin};
 
 /// The linear extension over no keys, one key, a sum, a negation, a difference, and the Z-set of a list.
@@ -51,7 +51,8 @@ pub fn z_sets_are_linear<K: Ord>()
 /// An additive map goes inside a linear extension, and is itself the linear extension of what it gives for single keys.
 /// In short: `f(Σ_k z(k) h(k)) = Σ_k z(k) f(h(k))`.
 pub fn additive_maps_are_linear<K: Ord, A, B>()
-    ensures inside { IsOrder K.cmp → (G : AbelianGroup A) → IsAbelian G → (H : AbelianGroup B) → IsAbelian H → (f : A → B) → IsAdditive G H f → (h : K → A) (z : ZSet K K.cmp) → f (lin G h z) ≡ lin H (λ k. f (h k)) z }
+    ensures inside { IsOrder K.cmp → (G : AbelianGroup A) (H : AbelianGroup B) (f : A → B) → IsHomomorphism G H f → (h : K → A) (z : ZSet K K.cmp)
+        → f (lin G h z) ≡ lin H (λ k. f (h k)) z }
     ensures single_keys { IsOrder K.cmp → (G : AbelianGroup A) → IsAbelian G → (f : ZSet K K.cmp → A) → IsAdditive (z_sets K.cmp) G f → (z : ZSet K K.cmp) → f z ≡ lin G (λ k. f (single K.cmp k)) z }
 {}
 

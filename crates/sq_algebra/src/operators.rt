@@ -1,11 +1,11 @@
 //! Operators on one Z-set: the images of its keys, the keys that pass a test, and the keys with a weight above 0.
 
-ghost use Rattle.std.specs.Prelude.{◌≡◌, pos, ◌+ℤ◌, ◌-ℤ◌, List, [], map, length, Bool, true, false, not, ◌&&◌, ◌⊎◌, int_lt, if◌then◌else◌};
+ghost use Rattle.std.specs.Prelude.{◌≡◌, pos, ◌+ℤ◌, ◌-ℤ◌, List, [], map, length, Bool, true, false, not, ◌&&◌, ◌⊎◌, if◌then◌else◌};
 ghost use Rattle.std.specs.List.{filter, flat_map};
 ghost use Rattle.sq_algebra.specs.Orders.{IsOrder, TwoOrders, ThreeOrders};
 ghost use Rattle.sq_algebra.specs.ZSet.{ZSet, entries, zero, single, from_pairs, of_list, weight, total, plus, minus};
 ghost use Rattle.sq_algebra.specs.Groups.{AbelianGroup, IsAbelian, IsAdditive, integers, z_sets, sum_over};
-ghost use Rattle.sq_algebra.specs.Operators.{lin, image, keep, distinct, product};
+ghost use Rattle.sq_algebra.specs.Operators.{lin, image, keep, distinct, product, presence};
 
 /// The image of a Z-set is a linear extension, so it is additive; over no keys it is empty.
 /// In short: `f(y + z) = f(y) + f(z)`, `f(0) = 0`.
@@ -49,7 +49,7 @@ pub fn tests_follow_each_other<K: Ord>()
 /// and a test may come before or after.
 /// In short: `distinct(z)(k) = [z(k) > 0]`.
 pub fn distinct_weights<K: Ord>()
-    ensures weights { (k : K) (z : ZSet K K.cmp) → weight k (distinct z) ≡ (if int_lt (pos 0) (weight k z) then pos 1 else pos 0) }
+    ensures weights { (k : K) (z : ZSet K K.cmp) → weight k (distinct z) ≡ presence (weight k z) }
     ensures none { IsOrder K.cmp → distinct (zero K.cmp) ≡ zero K.cmp }
     ensures same { IsOrder K.cmp → (z : ZSet K K.cmp) → ((k : K) → (weight k z ≡ pos 0) ⊎ (weight k z ≡ pos 1)) → distinct z ≡ z }
     ensures twice { IsOrder K.cmp → (z : ZSet K K.cmp) → distinct (distinct z) ≡ distinct z }
@@ -59,7 +59,7 @@ pub fn distinct_weights<K: Ord>()
 /// The change of the distinct Z-set is found at the keys of the change.
 pub fn distinct_changes<K: Ord>()
     ensures { IsOrder K.cmp → (z d : ZSet K K.cmp) → minus (distinct (plus z d)) (distinct z)
-        ≡ from_pairs K.cmp (map (λ e. (e.0, (if int_lt (pos 0) (weight e.0 z +ℤ e.1) then pos 1 else pos 0) -ℤ (if int_lt (pos 0) (weight e.0 z) then pos 1 else pos 0))) (entries d)) }
+        ≡ from_pairs K.cmp (map (λ e. (e.0, presence (weight e.0 z +ℤ e.1) -ℤ presence (weight e.0 z))) (entries d)) }
 {}
 
 /// The total of an image, of a product and of the keys that pass a test.

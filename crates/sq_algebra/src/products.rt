@@ -4,8 +4,8 @@ ghost use Rattle.std.specs.Prelude.{◌≡◌, ◌*ℤ◌, List, [], Bool, if◌
 ghost use Rattle.std.specs.List.{filter, flat_map};
 ghost use Rattle.sq_algebra.specs.Orders.{IsOrder, ThreeOrders, FourOrders};
 ghost use Rattle.sq_algebra.specs.ZSet.{ZSet, zero, of_list, weight, plus, minus};
-ghost use Rattle.sq_algebra.specs.Groups.{AbelianGroup, IsAbelian, IsAdditive, z_sets, sum_over};
-ghost use Rattle.sq_algebra.specs.Operators.{lin, image, keep, product, meet};
+ghost use Rattle.sq_algebra.specs.Groups.{AbelianGroup, IsAbelian, IsAdditive, z_sets};
+ghost use Rattle.sq_algebra.specs.Operators.{lin, image, keep, product, meet, cross_terms, double_sum, pair_sum};
 
 /// A product is a linear extension in each place, so it is additive in each; with no keys on one side it is empty; and
 /// the sides may change places.
@@ -27,8 +27,7 @@ pub fn products_are_bilinear<J: Ord, K: Ord, L: Ord>()
 /// In short: `Δ(y × z) = y × Δz + Δy × z + Δy × Δz`.
 pub fn products_change<J: Ord, K: Ord, L: Ord>()
     ensures { ThreeOrders J.cmp K.cmp L.cmp → (f : J → K → List L) (y dy : ZSet J J.cmp) (z dz : ZSet K K.cmp)
-        → minus (product L.cmp f (plus y dy) (plus z dz)) (product L.cmp f y z)
-        ≡ plus (plus (product L.cmp f y dz) (product L.cmp f dy z)) (product L.cmp f dy dz) }
+        → minus (product L.cmp f (plus y dy) (plus z dz)) (product L.cmp f y z) ≡ cross_terms (product L.cmp f) y dy z dz }
 {}
 
 /// A test before a product, on either side, and a test or an image after it are in the product.
@@ -60,8 +59,7 @@ pub fn products_take_images_in<I: Ord, J: Ord, K: Ord, L: Ord>()
 /// A linear extension over a product is one over its sides; and a key that two Z-sets have both has the product of its
 /// weights in what they have both.
 pub fn products_are_weighed<J: Ord, K: Ord, L: Ord, A>()
-    ensures linear { ThreeOrders J.cmp K.cmp L.cmp → (G : AbelianGroup A) → IsAbelian G
-        → (h : L → A) (f : J → K → List L) (y : ZSet J J.cmp) (z : ZSet K K.cmp) → lin G h (product L.cmp f y z)
-        ≡ lin G (λ j. lin G (λ k. sum_over G h (f j k)) z) y }
+    ensures linear { ThreeOrders J.cmp K.cmp L.cmp → (G : AbelianGroup A) → IsAbelian G → (h : L → A) (f : J → K → List L) (y : ZSet J J.cmp) (z : ZSet K K.cmp)
+        → lin G h (product L.cmp f y z) ≡ double_sum G (pair_sum G h f) y z }
     ensures meet { IsOrder K.cmp → (k : K) (y z : ZSet K K.cmp) → weight k (meet y z) ≡ weight k y *ℤ weight k z }
 {}

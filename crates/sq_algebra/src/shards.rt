@@ -1,14 +1,15 @@
 //! The parts of Z-sets in a set of shards.
 
-ghost use Rattle.std.specs.Prelude.{◌≡◌, ℕ, ℤ, pos, Option, Some, List, [], map, Bool, false, ◌==◌, ◌↔◌, IsTrue, nat_lt, if◌then◌else◌};
+ghost use Rattle.std.specs.Prelude.{◌≡◌, ℕ, ℤ, pos, Option, List, map, Bool, ◌==◌, ◌↔◌, IsTrue, nat_lt, if◌then◌else◌};
 ghost use Rattle.std.specs.List.{Any, filter};
-ghost use Rattle.std.specs.Ordering.{is_eq, nat_cmp};
+ghost use Rattle.std.specs.Ordering.{nat_cmp};
 ghost use Rattle.sq_algebra.specs.Orders.{IsOrder, TwoOrders, FourOrders};
 ghost use Rattle.sq_algebra.specs.Listed.{count};
-ghost use Rattle.sq_algebra.specs.ZSet.{ZSet, entries, zero, weight, plus};
-ghost use Rattle.sq_algebra.specs.Groups.{AbelianGroup, IsAbelian, IsAdditive, z_sets, minus as minus_in, sum_over};
-ghost use Rattle.sq_algebra.specs.Operators.{distinct, product, pairs_where};
+ghost use Rattle.sq_algebra.specs.ZSet.{ZSet, entries, zero, weight};
+ghost use Rattle.sq_algebra.specs.Groups.{AbelianGroup, IsAbelian, IsAdditive, z_sets, sum_over, change_of};
+ghost use Rattle.sq_algebra.specs.Operators.{distinct, product, join};
 ghost use Rattle.sq_algebra.specs.Keyed.{by_key, Shards, cut, over_shards, numbers_below};
+ghost use Rattle.sq_algebra.specs.KeyedLaws.{Coarser, SomeKey, OnlySameKeys, IsSummable, AddsUpOverShards, AddUpIn, AddsUp};
 
 /// The parts of a Z-set in the shards add up to it, and so does what an additive map gives for them. Taking a part is
 /// additive.
@@ -29,32 +30,26 @@ pub fn shards_add_up<K: Ord, D, A>()
 /// key; so do those of the pairs with the same optional keys, cut by columns that tell these keys.
 /// In short: `Σ_s (y|s × z|s) = y × z`.
 pub fn products_add_up_over_shards<D: Ord, J: Ord, K: Ord, L: Ord>()
-    ensures keys { FourOrders D.cmp J.cmp K.cmp L.cmp
-        → (S : Shards D) (left : J → D) (right : K → D) (f : J → K → List L) → ((j : J) (k : K) → is_eq (D.cmp (left j) (right k)) ≡ false → f j k ≡ [])
-        → (y : ZSet J J.cmp) (z : ZSet K K.cmp) → over_shards (z_sets L.cmp) S (λ s. product L.cmp f (cut S left s y) (cut S right s z)) ≡ product L.cmp f y z }
-    ensures optional { FourOrders D.cmp J.cmp K.cmp L.cmp
-        → (S : Shards D) (left : J → Option D) (right : K → Option D) (pair : J → K → Option L) (left_of : J → D) (right_of : K → D)
-        → ((j : J) (c : D) → left j ≡ Some c → left_of j ≡ c) → ((k : K) (c : D) → right k ≡ Some c → right_of k ≡ c) → (y : ZSet J J.cmp) (z : ZSet K K.cmp)
-        → over_shards (z_sets L.cmp) S (λ s. product L.cmp (pairs_where D.cmp left right pair) (cut S left_of s y) (cut S right_of s z))
-        ≡ product L.cmp (pairs_where D.cmp left right pair) y z }
+    ensures keys { FourOrders D.cmp J.cmp K.cmp L.cmp → (S : Shards D) (left : J → D) (right : K → D) (f : J → K → List L)
+        → OnlySameKeys D.cmp left right f → AddUpIn S J.cmp K.cmp left right (product L.cmp f) }
+    ensures optional { FourOrders D.cmp J.cmp K.cmp L.cmp → (S : Shards D) (left : SomeKey J D) (right : SomeKey K D)
+        (pair : J → K → Option L) → AddUpIn S J.cmp K.cmp left.cell right.cell (join L.cmp D.cmp left.key right.key pair) }
 {}
 
 /// A sum over the keys adds up over the shards, if the key of a row tells the key by which it is cut; and the
 /// distinct Z-set adds up however it is cut.
 /// In short: `Σ_s F(z|s) = F(z)`.
 pub fn sums_over_keys_add_up_over_shards<K: Ord, C: Ord, D, A>()
-    ensures keys { TwoOrders C.cmp K.cmp → (S : Shards D) (key : K → D) (fine : K → C) (coarse : C → D)
-        → ((k : K) → key k ≡ coarse (fine k)) → (G : AbelianGroup A) → IsAbelian G → (part : C → ZSet K K.cmp → A) → ((c : C) → part c (zero K.cmp) ≡ G.zero)
-        → (z : ZSet K K.cmp) → over_shards G S (λ s. by_key C.cmp fine G part (cut S key s z)) ≡ by_key C.cmp fine G part z }
+    ensures keys { TwoOrders C.cmp K.cmp → (S : Shards D) (fine : K → C) (outer : Coarser fine D) (G : AbelianGroup A)
+        → (part : C → ZSet K K.cmp → A) → IsSummable G part → AddsUpOverShards S outer.place G (by_key C.cmp fine G part) }
     ensures distinct { IsOrder K.cmp → (S : Shards D) (key : K → D) (z : ZSet K K.cmp) → over_shards (z_sets K.cmp) S (λ s. distinct (cut S key s z)) ≡ distinct z }
 {}
 
 /// If what f gives for the pieces adds up over the shards, so do its changes.
 /// In short: `Σ_s (f((z + d)|s) - f(z|s)) = f(z + d) - f(z)`.
 pub fn changes_add_up_over_shards<A, B, D>()
-    ensures { (H : AbelianGroup B) (G : AbelianGroup A) → IsAbelian G → (S : Shards D) (piece : ℕ → B → B) (f : B → A)
-        → ((b : B) → over_shards G S (λ s. f (piece s b)) ≡ f b) → (z d : B) → over_shards G S (λ s. minus_in G (f (piece s (H.plus z d))) (f (piece s z)))
-        ≡ minus_in G (f (H.plus z d)) (f z) }
+    ensures { (H : AbelianGroup B) (G : AbelianGroup A) (S : Shards D) (part : ℕ → B → B) (f : B → A)
+        → IsAbelian G → AddsUp G S part f → (z d : B) → over_shards G S (λ s. change_of H G (λ b. f (part s b)) z d) ≡ change_of H G f z d }
 {}
 
 /// What stands in the shard of one key alone adds up to itself.

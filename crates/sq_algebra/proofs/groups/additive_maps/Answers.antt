@@ -2,16 +2,16 @@ use Rattle.sq_algebra.proofs.GroupLemmas.{additive-minus, additive-negate, addit
 use Rattle.sq_algebra.proofs.groups.additive_maps.Goals as goal
 
 pub returns-clause-zero : goal.returns-clause-zero
-returns-clause-zero g c G H laws others f additive = additive-zero G H laws others f additive
+returns-clause-zero g c G H f map = additive-zero G H map.from map.to f map.additive
 
 pub returns-clause-negation : goal.returns-clause-negation
-returns-clause-negation g c G H laws others f additive = additive-negate G H laws others f additive
+returns-clause-negation g c G H f map = additive-negate G H map.from map.to f map.additive
 
 pub returns-clause-difference : goal.returns-clause-difference
-returns-clause-difference g c G H laws others f additive = additive-minus G H laws others f additive
+returns-clause-difference g c G H f map = additive-minus G H map.from map.to f map.additive
 
 pub returns-clause-multiple : goal.returns-clause-multiple
-returns-clause-multiple g c G H laws others f additive = additive-times G H laws others f additive
+returns-clause-multiple g c G H f map = additive-times G H map.from map.to f map.additive
 
 pub returns-clause-sum : goal.returns-clause-sum
-returns-clause-sum g c G H laws others f additive = additive-sum_over G H laws others f additive
+returns-clause-sum g c G H f map = additive-sum_over G H map.from map.to f map.additive

@@ -11,4 +11,4 @@ pub returns-clause-none : goal.returns-clause-none
 returns-clause-none g c orders key = at_key-zero g.C.Ord.cmp g.met.C.Ord.total orders.first g.K.Ord.cmp g.met.K.Ord.total orders.second key
 
 pub returns-clause-part : goal.returns-clause-part
-returns-clause-part g c orders key = at_key-at_key g.C.Ord.cmp g.met.C.Ord.total orders.first g.K.Ord.cmp g.met.K.Ord.total orders.second key
+returns-clause-part g c orders key P outer = at_key-at_key g.C.Ord.cmp g.met.C.Ord.total orders.first g.K.Ord.cmp g.met.K.Ord.total orders.second key P outer.place outer.inner outer.tells

@@ -12,4 +12,4 @@ pub returns-clause-cover : goal.returns-clause-cover
 returns-clause-cover g c = covers-some_keys_of g.C.Ord.cmp g.met.C.Ord.total g.K.Ord.cmp
 
 pub returns-clause-apart : goal.returns-clause-apart
-returns-clause-apart g c orders = pairs_where_apart g.C.Ord.cmp g.met.C.Ord.total orders.first g.J.Ord.cmp g.met.J.Ord.total orders.second g.K.Ord.cmp g.met.K.Ord.total orders.third g.L.Ord.cmp g.met.L.Ord.total orders.fourth
+returns-clause-apart g c orders left right pair = pairs_where_apart g.C.Ord.cmp g.met.C.Ord.total orders.first g.J.Ord.cmp g.met.J.Ord.total orders.second g.K.Ord.cmp g.met.K.Ord.total orders.third g.L.Ord.cmp g.met.L.Ord.total orders.fourth left.key right.key pair left.cell right.cell left.agrees right.agrees
