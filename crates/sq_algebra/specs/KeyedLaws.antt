@@ -5,14 +5,14 @@
 --     GroupMap C R U, GroupValue C R G      what is done to the rows of a group, once as a list and once as a Z-set
 --     under f part      f after part
 --     only_at Q c d z      z if the keys c and d are the same, and otherwise no keys
--- For any cover cs of z, and any f:
+-- Statements on a map f, for each z and each list of keys cs that covers z:
 --     AddsUpBy Q key G f             Σ_c f(z|c) = f(z)
 --     SumsOverCovers Q key G part f     f(z) = Σ_c part c (z|c)
 --     AgreesOnParts Q key part f     f(z|c) = part c (z|c)
 --     ChangesByKey Q key G part f    f(z + d) - f(z) = Σ_c (part c ((z + d)|c) - part c (z|c)), if cs covers d
---     LeftPartsAddUp, RightPartsAddUp Q S R left right f      Σ_c f(y|c, z|c) = f(y, z), if cs covers y, and if it covers z
+--     LeftPartsAddUp, RightPartsAddUp Q P R left right f      Σ_c f(y|c, z|c) = f(y, z), if cs covers y, and if it covers z
 --     LeftSomePartsAddUp, RightSomePartsAddUp            the same, if some rows have no key
---     ChangesBySomeKey Q S R left right f    Δf(y, z) = Σ_c (f(y|c, Δz|c) + f(Δy|c, z|c) + f(Δy|c, Δz|c)), if cs covers Δy and Δz
+--     ChangesBySomeKey Q P R left right f    Δf(y, z) = Σ_c (f(y|c, Δz|c) + f(Δy|c, z|c) + f(Δy|c, Δz|c)), if cs covers Δy and Δz
 --     AddsUpOverShards S key G f     Σ_s f(z|s) = f(z), over the shards s.      AddsUp G S part f     Σ_s f(part s b) = f(b)
 --     AddUpIn S P R left right f     Σ_s f(y|s, z|s) = f(y, z)
 use Rattle.std.specs.Prelude.{◌≡◌, ℕ, List, [], map, Option, Some, false, if◌then◌else◌}
@@ -20,7 +20,7 @@ use Rattle.std.specs.declared.cmp.Ordering.{Ordering}
 use Rattle.std.specs.Ordering.{is_eq}
 use Rattle.sq_algebra.specs.Listed.{first_of_each}
 use Rattle.sq_algebra.specs.ZSet.{ZSet, zero, of_list, plus, minus}
-use Rattle.sq_algebra.specs.Groups.{AbelianGroup, IsAbelian, z_sets, minus as minus_in, sum_over, change_of}
+use Rattle.sq_algebra.specs.Groups.{AbelianGroup, IsAbelian, z_sets, sum_over, change_of}
 use Rattle.sq_algebra.specs.Operators.{cross_terms}
 use Rattle.sq_algebra.specs.Keyed.{members_at, at_key, CoversOnce, at_some_key, CoversSomeOnce, Shards, cut, over_shards}
 

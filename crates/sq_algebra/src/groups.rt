@@ -6,17 +6,20 @@ ghost use Rattle.sq_algebra.specs.Orders.{IsOrder};
 ghost use Rattle.sq_algebra.specs.Groups.{AbelianGroup, IsAbelian, IsAdditive, pairs_of, functions_to, integers, z_sets, times, sum_over, minus, IsHomomorphism, IsBilinear};
 
 /// The whole numbers are an abelian group, and the multiple of one by another is their product.
+/// In short: `n` added `m` times is `m n`, and `m + n`, `-n` and 0 have the laws of an abelian group.
 pub fn integers_are_a_group()
     ensures group { IsAbelian integers }
     ensures product { (m n : ℤ) → times integers m n ≡ m *ℤ n }
 {}
 
 /// The Z-sets over keys of one type are an abelian group.
+/// In short: `(x + y) + z = x + (y + z)`, `y + z = z + y`, `0 + z = z`, `z + (-z) = 0`.
 pub fn z_sets_are_a_group<K: Ord>()
     ensures { IsOrder K.cmp → IsAbelian (z_sets K.cmp) }
 {}
 
 /// The pairs of members of two groups, and the functions into a group, are groups.
+/// In short: `(a, b) + (c, d) = (a + c, b + d)` and `(f + g)(x) = f(x) + g(x)`.
 pub fn pairs_and_functions_are_groups<A, B, X>()
     ensures pairs { (G : AbelianGroup A) (H : AbelianGroup B) → IsAbelian G → IsAbelian H → IsAbelian (pairs_of G H) }
     ensures functions { (G : AbelianGroup A) → IsAbelian G → IsAbelian (functions_to X G) }
@@ -72,6 +75,7 @@ pub fn additive_maps<A, B, X>()
 {}
 
 /// Additive maps: one after another, their sum and their negation, and the map to zero.
+/// In short: `g ∘ f`, `f + g`, `-f`, 0 and `a ↦ n a` are additive, if `f` and `g` are.
 pub fn additive_maps_compose<A, B, C>()
     ensures composed { (G : AbelianGroup A) (H : AbelianGroup B) (F : AbelianGroup C) (f : A → B) (g : B → C) → IsAdditive G H f → IsAdditive H F g → IsAdditive G F (λ a. g (f a)) }
     ensures sum { (G : AbelianGroup A) (H : AbelianGroup B) → IsAbelian H → (f g : A → B) → IsAdditive G H f → IsAdditive G H g → IsAdditive G H (λ a. H.plus (f a) (g a)) }
@@ -81,14 +85,15 @@ pub fn additive_maps_compose<A, B, C>()
 {}
 
 /// The change of a map that is additive in each of two places, by the changes of these.
-/// In short: `f(a + Δa, b + Δb) - f(a, b) = f(a, Δb) + f(Δa, b) + f(Δa, Δb)`.
+/// In short: `f(a + x, b + y) - f(a, b) = f(a, y) + f(x, b) + f(x, y)`.
 pub fn bilinear_maps_change<A, B, C>()
     ensures { (G : AbelianGroup A) (H : AbelianGroup B) (F : AbelianGroup C) (f : A → B → C) → IsBilinear G H F f → (a x : A) (b y : B)
         → minus F (f (G.plus a x) (H.plus b y)) (f a b) ≡ F.plus (F.plus (f a y) (f x b)) (f x y) }
 {}
 
 /// Sums over joined, filtered and mapped lists, and the two sums of a double sum in the other order.
-/// In short: `Σ_x Σ_y f(x, y) = Σ_y Σ_x f(x, y)`, and alike.
+/// In short: `Σ_{xs ++ ys} f = Σ_xs f + Σ_ys f`, `Σ_{g(ys)} f = Σ_ys (f ∘ g)`,
+/// `Σ_x Σ_y f(x, y) = Σ_y Σ_x f(x, y)`.
 pub fn sums_over_lists<A, X, Y>()
     ensures joined { (G : AbelianGroup A) → IsAbelian G → (f : X → A) (xs ys : List X) → sum_over G f (xs ++ ys) ≡ G.plus (sum_over G f xs) (sum_over G f ys) }
     ensures filtered { (G : AbelianGroup A) → IsAbelian G → (f : X → A) (p : X → Bool) (xs : List X) → sum_over G f (filter p xs) ≡ sum_over G (λ x. if p x then f x else G.zero) xs }
@@ -98,6 +103,7 @@ pub fn sums_over_lists<A, X, Y>()
 {}
 
 /// Sums of zeros, sums, differences and multiples, and of functions that agree at the members of a list.
+/// In short: `Σ 0 = 0`, `Σ (f + g) = Σ f + Σ g`, `Σ (f - g) = Σ f - Σ g`, `Σ n f = n Σ f`.
 pub fn sums_of_functions<A, X>()
     ensures zeros { (G : AbelianGroup A) → IsAbelian G → (xs : List X) → sum_over G (λ _. G.zero) xs ≡ G.zero }
     ensures sums { (G : AbelianGroup A) → IsAbelian G → (f g : X → A) (xs : List X) → sum_over G (λ x. G.plus (f x) (g x)) xs ≡ G.plus (sum_over G f xs) (sum_over G g xs) }

@@ -11,6 +11,7 @@ ghost use Rattle.sq_algebra.specs.Keyed.{at_key, keys_of, CoversOnce, by_key, so
 ghost use Rattle.sq_algebra.specs.KeyedLaws.{Coarser, SomeKey, OnlySameKeys, IsSummable, under, only_at, AddsUpBy, AgreesOnParts, SumsOverCovers, ChangesByKey, LeftPartsAddUp, RightPartsAddUp, LeftSomePartsAddUp, RightSomePartsAddUp, ChangesBySomeKey};
 
 /// The part of one key: its weights, that taking it is additive, and the part of a part.
+/// In short: `(z|c)(k) = [key(k) = c] z(k)`, `(y + z)|c = y|c + z|c`, `0|c = 0`, `(z|d)|c = [d = inner(c)] z|c`.
 pub fn parts_are_linear<C: Ord, K: Ord, D>()
     ensures weights { TwoOrders C.cmp K.cmp → (key : K → C) (k : K) (c : C) (z : ZSet K K.cmp) → weight k (at_key C.cmp key c z) ≡ (if is_eq (C.cmp c (key k)) then weight k z else pos 0) }
     ensures additive { TwoOrders C.cmp K.cmp → (key : K → C) (c : C) → IsAdditive (z_sets K.cmp) (z_sets K.cmp) (at_key C.cmp key c) }
@@ -22,6 +23,7 @@ pub fn parts_are_linear<C: Ord, K: Ord, D>()
 /// The keys that a Z-set has, ascending, cover it. A list covers it exactly if each key with a weight has its own in
 /// the list once, and then covers what is left of it after a test. The keys that a Z-set has are those with a part that
 /// is not empty, and each stands in every cover.
+/// In short: `cs` covers `z` if `#_{key(k)}(cs) = 1` for each `k` with `z(k) ≠ 0`; `z|c = 0` or `#_c(cs) = 1`.
 pub fn covers_are_covers<C: Ord, K: Ord>()
     ensures own_keys { TwoOrders C.cmp K.cmp → (key : K → C) (z : ZSet K K.cmp) → CoversOnce C.cmp key (keys_of C.cmp key z) z }
     ensures by_weight { TwoOrders C.cmp K.cmp → (key : K → C) (cs : List C) (z : ZSet K K.cmp) → CoversOnce C.cmp key cs z → (k : K) → (weight k z ≡ pos 0) ⊎ (count C.cmp (key k) cs ≡ 1) }
@@ -56,6 +58,7 @@ pub fn sums_over_keys<C: Ord, K: Ord, A>()
 
 /// Parts that agree have the same sum over the keys; an additive map goes inside it; and over the part of one key only
 /// what is given for this key is left.
+/// In short: with `F(z) = Σ_c P c (z|c)`, `f(F(z)) = Σ_c f(P c (z|c))` and `F(z|c) = P c (z|c)`.
 pub fn sums_over_keys_of_parts<C: Ord, K: Ord, A, B>()
     ensures same { (key : K → C) (G : AbelianGroup A) (part other : C → ZSet K K.cmp → A) → ((c : C) (y : ZSet K K.cmp) → part c y ≡ other c y) → (z : ZSet K K.cmp) → by_key C.cmp key G part z ≡ by_key C.cmp key G other z }
     ensures inside { (key : K → C) (G : AbelianGroup A) (H : AbelianGroup B) (f : A → B) → IsHomomorphism G H f → (part : C → ZSet K K.cmp → A)
@@ -65,6 +68,7 @@ pub fn sums_over_keys_of_parts<C: Ord, K: Ord, A, B>()
 {}
 
 /// A sum over the keys of additive parts is additive, and one of linear extensions is a linear extension.
+/// In short: `F(y + z) = F(y) + F(z)`, and `Σ_c Σ_k (z|c)(k) h(c, k) = Σ_k z(k) h(key(k), k)`.
 pub fn sums_over_keys_are_linear<C: Ord, K: Ord, A>()
     ensures additive { TwoOrders C.cmp K.cmp → (key : K → C) (G : AbelianGroup A) → IsAbelian G → (part : C → ZSet K K.cmp → A)
         → AreAdditive (z_sets K.cmp) G part → IsAdditive (z_sets K.cmp) G (by_key C.cmp key G part) }
@@ -100,6 +104,7 @@ pub fn joins_change_by_key<C: Ord, J: Ord, K: Ord, L: Ord>()
 
 /// The products of the parts add up also for the pairs with the same optional keys, by the keys of a list that covers
 /// those of one side, as the keys that are there do. Two keys without a common key have no image.
+/// In short: `Σ_c (y|c ⋈ z|c) = y ⋈ z`.
 pub fn products_add_up_by_optional_key<C: Ord, J: Ord, K: Ord, L: Ord>()
     ensures left { FourOrders C.cmp J.cmp K.cmp L.cmp → (left : J → Option C) (right : K → Option C) (pair : J → K → Option L)
         → LeftSomePartsAddUp C.cmp J.cmp K.cmp left right (join L.cmp C.cmp left right pair) }

@@ -9,7 +9,8 @@ ghost use Rattle.sq_algebra.specs.Groups.{AbelianGroup, IsAbelian, IsAdditive, i
 ghost use Rattle.sq_algebra.specs.Operators.{lin};
 
 /// The linear extension over no keys, one key, a sum, a negation, a difference, and the Z-set of a list.
-/// In short: `h(y + z) = h(y) + h(z)`, `h(-z) = -h(z)`, `h(y - z) = h(y) - h(z)`.
+/// In short: `h(0) = 0`, `h(1 k) = h(k)`, `h(y + z) = h(y) + h(z)`, `h(-z) = -h(z)`, `h(y - z) = h(y) - h(z)`,
+/// `h([xs]) = Σ_x h(x)`.
 pub fn linear_extensions_add<K: Ord, A>()
     ensures none { IsOrder K.cmp → (G : AbelianGroup A) → IsAbelian G → (h : K → A) → lin G h (zero K.cmp) ≡ G.zero }
     ensures one { IsOrder K.cmp → (G : AbelianGroup A) → IsAbelian G → (h : K → A) (k : K) → lin G h (single K.cmp k) ≡ h k }
@@ -32,6 +33,8 @@ pub fn linear_in_the_function<K: Ord, A, X>()
 
 /// Functions that agree at the keys of a Z-set have the same linear extension over it, and one function has the same
 /// over two Z-sets if the multiples by their weights are the same.
+/// In short: `g(z) = h(z)` if `g(k) = h(k)` for each `k` of `z`, and `h(y) = h(z)` if `y(k) h(k) = z(k) h(k)` for each
+/// `k`.
 pub fn linear_extensions_agree<K: Ord, A>()
     ensures functions { IsOrder K.cmp → (G : AbelianGroup A) → IsAbelian G → (g h : K → A) (z : ZSet K K.cmp) → All (λ e. g e.0 ≡ h e.0) (entries z) → lin G g z ≡ lin G h z }
     ensures weights { IsOrder K.cmp → (G : AbelianGroup A) → IsAbelian G → (h : K → A) (y z : ZSet K K.cmp) → ((k : K) → times G (weight k y) (h k) ≡ times G (weight k z) (h k)) → lin G h y ≡ lin G h z }
@@ -39,7 +42,7 @@ pub fn linear_extensions_agree<K: Ord, A>()
 {}
 
 /// A Z-set is the linear extension of its single keys, and its weights and its total are linear extensions.
-/// In short: `z = Σ_k z(k) k`.
+/// In short: `z = Σ_k z(k) k`, `z(k) = Σ_j z(j) [k = j]`, `|z| = Σ_k z(k)`.
 pub fn z_sets_are_linear<K: Ord>()
     ensures singles { IsOrder K.cmp → (z : ZSet K K.cmp) → lin (z_sets K.cmp) (single K.cmp) z ≡ z }
     ensures weight { (k : K) (z : ZSet K K.cmp) → weight k z ≡ lin integers (λ j. if is_eq (K.cmp k j) then pos 1 else pos 0) z }
@@ -49,7 +52,7 @@ pub fn z_sets_are_linear<K: Ord>()
 {}
 
 /// An additive map goes inside a linear extension, and is itself the linear extension of what it gives for single keys.
-/// In short: `f(Σ_k z(k) h(k)) = Σ_k z(k) f(h(k))`.
+/// In short: `f(Σ_k z(k) h(k)) = Σ_k z(k) f(h(k))` and `f(z) = Σ_k z(k) f(1 k)`.
 pub fn additive_maps_are_linear<K: Ord, A, B>()
     ensures inside { IsOrder K.cmp → (G : AbelianGroup A) (H : AbelianGroup B) (f : A → B) → IsHomomorphism G H f → (h : K → A) (z : ZSet K K.cmp)
         → f (lin G h z) ≡ lin H (λ k. f (h k)) z }
@@ -57,7 +60,7 @@ pub fn additive_maps_are_linear<K: Ord, A, B>()
 {}
 
 /// The sides of a double sum change places, and a linear extension over a linear extension is one over the first Z-set.
-/// In short: `Σ_j Σ_k y(j) z(k) f(j, k) = Σ_k Σ_j y(j) z(k) f(j, k)`.
+/// In short: `Σ_j Σ_k y(j) z(k) f(j, k) = Σ_k Σ_j y(j) z(k) f(j, k)` and `h(Σ_j y(j) g(j)) = Σ_j y(j) h(g(j))`.
 pub fn linear_extensions_nest<J: Ord, K: Ord, A>()
     ensures swapped { TwoOrders J.cmp K.cmp → (G : AbelianGroup A) → IsAbelian G
         → (f : J → K → A) (y : ZSet J J.cmp) (z : ZSet K K.cmp) → lin G (λ j. lin G (f j) z) y ≡ lin G (λ k. lin G (λ j. f j k) y) z }

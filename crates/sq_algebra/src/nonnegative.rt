@@ -7,6 +7,7 @@ ghost use Rattle.sq_algebra.specs.Operators.{image, keep, distinct, product, IsN
 
 /// A Z-set without weights below 0 is that of a list: of its keys, each as often as its weight says. Its total is the
 /// length of this list.
+/// In short: if `z ≥ 0`, there is a list `xs` with `[xs] = z` and `length(xs) = |z|`.
 pub fn nonnegative_is_a_list<K: Ord>()
     ensures list { (xs : List K) → IsNonNegative (of_list K.cmp xs) }
     ensures repeated { IsOrder K.cmp → (z : ZSet K K.cmp) → IsNonNegative z → of_list K.cmp (repeated z) ≡ z }
@@ -14,6 +15,7 @@ pub fn nonnegative_is_a_list<K: Ord>()
 {}
 
 /// The operators give no weight below 0 if they are given none.
+/// In short: `y + z ≥ 0`, `distinct(z) ≥ 0`, `σ_p(z) ≥ 0`, `f(z) ≥ 0`, `y × z ≥ 0` if `y ≥ 0` and `z ≥ 0`.
 pub fn operators_stay_nonnegative<J: Ord, K: Ord, L: Ord>()
     ensures sum { (y z : ZSet K K.cmp) → IsNonNegative y → IsNonNegative z → IsNonNegative (plus y z) }
     ensures distinct { (z : ZSet K K.cmp) → IsNonNegative (distinct z) }
@@ -23,6 +25,7 @@ pub fn operators_stay_nonnegative<J: Ord, K: Ord, L: Ord>()
 {}
 
 /// Without weights below 0 no weight is above the total, and a test does not raise the total.
+/// In short: `z(k) ≤ |z|` and `|σ_p(z)| ≤ |z|` if `z ≥ 0`.
 pub fn nonnegative_totals<K: Ord>()
     ensures weight { IsOrder K.cmp → (k : K) (z : ZSet K K.cmp) → IsNonNegative z → weight k z ≤ℤ total z }
     ensures test { IsOrder K.cmp → (p : K → Bool) (z : ZSet K K.cmp) → IsNonNegative z → total (keep p z) ≤ℤ total z }

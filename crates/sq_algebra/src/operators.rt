@@ -18,7 +18,7 @@ pub fn images_are_linear<K: Ord, L: Ord>()
 {}
 
 /// An image after an image, after a test and before a test is an image, and a linear extension goes over the images.
-/// In short: `g(f(z)) = (g ∘ f)(z)`.
+/// In short: `g(f(z)) = (g ∘ f)(z)`, `h(f(z)) = Σ_k z(k) Σ_{l of f(k)} h(l)`.
 pub fn images_follow_each_other<K: Ord, L: Ord, M: Ord, A>()
     ensures image { ThreeOrders K.cmp L.cmp M.cmp → (g : L → List M) (f : K → List L) (z : ZSet K K.cmp) → image M.cmp g (image L.cmp f z) ≡ image M.cmp (λ k. flat_map g (f k)) z }
     ensures after_test { TwoOrders K.cmp L.cmp → (f : K → List L) (p : K → Bool) (z : ZSet K K.cmp) → image L.cmp f (keep p z) ≡ image L.cmp (λ k. if p k then f k else []) z }
@@ -27,6 +27,8 @@ pub fn images_follow_each_other<K: Ord, L: Ord, M: Ord, A>()
 {}
 
 /// The keys that pass a test: their weights, and that keeping them is linear.
+/// In short: `σ_p(z)(k) = [p(k)] z(k)`, `σ_p(y + z) = σ_p(y) + σ_p(z)`, `σ_p(0) = 0`,
+/// `h(σ_p(z)) = Σ_k z(k) [p(k)] h(k)`.
 pub fn tests_are_linear<K: Ord, A>()
     ensures weights { IsOrder K.cmp → (p : K → Bool) (k : K) (z : ZSet K K.cmp) → weight k (keep p z) ≡ (if p k then weight k z else pos 0) }
     ensures extension { IsOrder K.cmp → (p : K → Bool) (z : ZSet K K.cmp) → keep p z ≡ lin (z_sets K.cmp) (λ k. if p k then single K.cmp k else zero K.cmp) z }
@@ -47,7 +49,8 @@ pub fn tests_follow_each_other<K: Ord>()
 
 /// The weights of the distinct Z-set; it is the same if each weight is 0 or 1, so a second time it changes nothing,
 /// and a test may come before or after.
-/// In short: `distinct(z)(k) = [z(k) > 0]`.
+/// In short: `distinct(z)(k) = [z(k) > 0]`, `distinct(distinct(z)) = distinct(z)`,
+/// `distinct(σ_p(z)) = σ_p(distinct(z))`.
 pub fn distinct_weights<K: Ord>()
     ensures weights { (k : K) (z : ZSet K K.cmp) → weight k (distinct z) ≡ presence (weight k z) }
     ensures none { IsOrder K.cmp → distinct (zero K.cmp) ≡ zero K.cmp }
@@ -57,12 +60,14 @@ pub fn distinct_weights<K: Ord>()
 {}
 
 /// The change of the distinct Z-set is found at the keys of the change.
+/// In short: `distinct(z + d) - distinct(z) = Σ_k ([z(k) + d(k) > 0] - [z(k) > 0]) k` over the keys of `d`.
 pub fn distinct_changes<K: Ord>()
     ensures { IsOrder K.cmp → (z d : ZSet K K.cmp) → minus (distinct (plus z d)) (distinct z)
         ≡ from_pairs K.cmp (map (λ e. (e.0, presence (weight e.0 z +ℤ e.1) -ℤ presence (weight e.0 z))) (entries d)) }
 {}
 
 /// The total of an image, of a product and of the keys that pass a test.
+/// In short: `|f(z)| = Σ_k z(k) |f(k)|`, `|σ_p(z)| = Σ_k z(k) [p(k)]`, `|y × z| = Σ_j Σ_k y(j) z(k) |f(j, k)|`.
 pub fn totals_of_operators<J: Ord, K: Ord, L: Ord>()
     ensures image { TwoOrders K.cmp L.cmp → (f : K → List L) (z : ZSet K K.cmp) → total (image L.cmp f z) ≡ lin integers (λ k. pos (length (f k))) z }
     ensures test { IsOrder K.cmp → (p : K → Bool) (z : ZSet K K.cmp) → total (keep p z) ≡ lin integers (λ k. if p k then pos 1 else pos 0) z }

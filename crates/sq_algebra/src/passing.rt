@@ -10,11 +10,13 @@ ghost use Rattle.sq_algebra.specs.Passing.{all_pass};
 ghost use Rattle.sq_algebra.specs.ZSet.{ZSet, minus, negate, of_list, plus};
 
 /// All keys of a list's Z-set pass a test exactly if all members of the list do.
+/// In short: `∀ k ∈ [xs]: p(k)` exactly if `∀ x ∈ xs: p(x)`.
 pub fn tests_of_lists<K: Ord>()
     ensures { IsOrder K.cmp → (p : K → Bool) (xs : List K) → all_pass p (of_list K.cmp xs) ≡ list_all p xs }
 {}
 
 /// If all keys of two Z-sets pass a test, so do those of their sum and their difference.
+/// In short: with `p(z)` for `∀ k ∈ z: p(k)`, `p(y)` and `p(z)` give `p(y + z)`, `p(y - z)` and `p(-z)`.
 pub fn sums_pass<K: Ord>()
     ensures sum { (p : K → Bool) (y z : ZSet K K.cmp) → IsTrue (all_pass p y) → IsTrue (all_pass p z) → IsTrue (all_pass p (plus y z)) }
     ensures difference { (p : K → Bool) (y z : ZSet K K.cmp) → IsTrue (all_pass p y) → IsTrue (all_pass p z) → IsTrue (all_pass p (minus y z)) }
@@ -23,6 +25,7 @@ pub fn sums_pass<K: Ord>()
 
 /// If all keys of a Z-set pass a test, so do those that pass another test, those of the part of a key, and those of the
 /// part in a shard. All keys that pass a test pass it.
+/// In short: `p(z)` gives `p(σ_q(z))`, `p(z|c)` and `p(z|s)`; and `p(σ_p(z))`.
 pub fn parts_pass<K: Ord, C, D>()
     ensures kept { (p q : K → Bool) (z : ZSet K K.cmp) → IsTrue (all_pass p z) → IsTrue (all_pass p (keep q z)) }
     ensures tested { (p : K → Bool) (z : ZSet K K.cmp) → IsTrue (all_pass p (keep p z)) }
@@ -32,6 +35,7 @@ pub fn parts_pass<K: Ord, C, D>()
 
 /// If all keys of a Z-set pass a test, and all images of each key that passes it pass another test, so do all keys of the
 /// image.
+/// In short: if `p(k)` gives `q(l)` for each `l` of `f(k)`, `p(z)` gives `q(f(z))`.
 pub fn images_pass<K: Ord, L: Ord>()
     ensures { (p : K → Bool) (q : L → Bool) (f : K → List L) → ((k : K) → IsTrue (p k) → IsTrue (list_all q (f k))) → (z : ZSet K K.cmp) → IsTrue (all_pass p z) → IsTrue (all_pass q (image L.cmp f z)) }
 {}

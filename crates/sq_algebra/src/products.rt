@@ -9,7 +9,8 @@ ghost use Rattle.sq_algebra.specs.Operators.{lin, image, keep, product, meet, cr
 
 /// A product is a linear extension in each place, so it is additive in each; with no keys on one side it is empty; and
 /// the sides may change places.
-/// In short: `(x + y) × z = x × z + y × z`, `y × (x + z) = y × x + y × z`, `0 × z = 0`.
+/// In short: `y × z = Σ_j Σ_k y(j) z(k) f(j, k)`, `(x + y) × z = x × z + y × z`, `y × (x + z) = y × x + y × z`,
+/// `0 × z = 0`.
 pub fn products_are_bilinear<J: Ord, K: Ord, L: Ord>()
     ensures extension { ThreeOrders J.cmp K.cmp L.cmp
         → (f : J → K → List L) (y : ZSet J J.cmp) (z : ZSet K K.cmp) → product L.cmp f y z
@@ -24,13 +25,14 @@ pub fn products_are_bilinear<J: Ord, K: Ord, L: Ord>()
 {}
 
 /// The change of a product is old times change, change times old, and change times change.
-/// In short: `Δ(y × z) = y × Δz + Δy × z + Δy × Δz`.
+/// In short: `(y + Δy) × (z + Δz) - y × z = y × Δz + Δy × z + Δy × Δz`.
 pub fn products_change<J: Ord, K: Ord, L: Ord>()
     ensures { ThreeOrders J.cmp K.cmp L.cmp → (f : J → K → List L) (y dy : ZSet J J.cmp) (z dz : ZSet K K.cmp)
         → minus (product L.cmp f (plus y dy) (plus z dz)) (product L.cmp f y z) ≡ cross_terms (product L.cmp f) y dy z dz }
 {}
 
 /// A test before a product, on either side, and a test or an image after it are in the product.
+/// In short: `σ_p(y) × z = Σ_j Σ_k y(j) z(k) [p(j)] f(j, k)`, `σ_p(y × z) = Σ_j Σ_k y(j) z(k) σ_p(f(j, k))`, and alike.
 pub fn products_take_tests_in<J: Ord, K: Ord, L: Ord, M: Ord>()
     ensures left { ThreeOrders J.cmp K.cmp L.cmp
         → (f : J → K → List L) (p : J → Bool) (y : ZSet J J.cmp) (z : ZSet K K.cmp) → product L.cmp f (keep p y) z
@@ -47,6 +49,7 @@ pub fn products_take_tests_in<J: Ord, K: Ord, L: Ord, M: Ord>()
 {}
 
 /// A product with the image of a Z-set on one side is a product with the Z-set itself.
+/// In short: `g(x) × z = Σ_i Σ_k x(i) z(k) f(g(i), k)`, and the same on the right.
 pub fn products_take_images_in<I: Ord, J: Ord, K: Ord, L: Ord>()
     ensures left { FourOrders I.cmp J.cmp K.cmp L.cmp
         → (f : J → K → List L) (g : I → List J) (x : ZSet I I.cmp) (z : ZSet K K.cmp) → product L.cmp f (image J.cmp g x) z
@@ -58,6 +61,7 @@ pub fn products_take_images_in<I: Ord, J: Ord, K: Ord, L: Ord>()
 
 /// A linear extension over a product is one over its sides; and a key that two Z-sets have both has the product of its
 /// weights in what they have both.
+/// In short: `h(y × z) = Σ_j Σ_k y(j) z(k) h(f(j, k))` and `(y ∩ z)(k) = y(k) z(k)`.
 pub fn products_are_weighed<J: Ord, K: Ord, L: Ord, A>()
     ensures linear { ThreeOrders J.cmp K.cmp L.cmp → (G : AbelianGroup A) → IsAbelian G → (h : L → A) (f : J → K → List L) (y : ZSet J J.cmp) (z : ZSet K K.cmp)
         → lin G h (product L.cmp f y z) ≡ double_sum G (pair_sum G h f) y z }
