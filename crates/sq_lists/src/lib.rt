@@ -19,7 +19,7 @@ mod stop;
 mod views;
 
 pub(crate) use listing::Listing;
-pub use refusal::ViewsStop;
+pub use refusal::ViewsFault;
 pub(crate) use stop::Stop;
 pub use views::list_views;
 
@@ -27,5 +27,5 @@ fn is_send_and_sync<T: Send + Sync>() {}
 
 // A refusal may be handed to another thread, and be shared.
 fn data_crosses_threads() {
-    is_send_and_sync::<ViewsStop>();
+    is_send_and_sync::<ViewsFault>();
 }

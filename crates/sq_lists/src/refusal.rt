@@ -6,7 +6,7 @@ use std::alloc::{AllocError, AllocFailed};
 
 /// Why the views of a program are not listed.
 #[derive(Clone, Copy, Debug, PartialEq, Eq)]
-pub enum ViewsStop {
+pub enum ViewsFault {
     /// The view with this number, counted from 0 among the views, is the first that has a place of more than 2^61 rows or a
     /// tested number outside BIGINT.
     Range { view: u32 },
@@ -14,32 +14,32 @@ pub enum ViewsStop {
     Memory,
 }
 
-impl From<NoMemory> for ViewsStop {
-    ghost use Rattle.sq_lists.specs.declared.refusal.ViewsStop.TheVariants.{Memory};
+impl From<NoMemory> for ViewsFault {
+    ghost use Rattle.sq_lists.specs.declared.refusal.ViewsFault.TheVariants.{Memory};
 
     ghost from_gives = { λ _ e. e ≡ Memory };
 
-    fn from(_: NoMemory) -> ViewsStop {
-        ViewsStop::Memory
+    fn from(_: NoMemory) -> ViewsFault {
+        ViewsFault::Memory
     }
 }
 
-impl From<AllocError> for ViewsStop {
-    ghost use Rattle.sq_lists.specs.declared.refusal.ViewsStop.TheVariants.{Memory};
+impl From<AllocError> for ViewsFault {
+    ghost use Rattle.sq_lists.specs.declared.refusal.ViewsFault.TheVariants.{Memory};
 
     ghost from_gives = { λ _ e. e ≡ Memory };
 
-    fn from(_: AllocError) -> ViewsStop {
-        ViewsStop::Memory
+    fn from(_: AllocError) -> ViewsFault {
+        ViewsFault::Memory
     }
 }
 
-impl<T: Drop> From<AllocFailed<T>> for ViewsStop {
-    ghost use Rattle.sq_lists.specs.declared.refusal.ViewsStop.TheVariants.{Memory};
+impl<T: Drop> From<AllocFailed<T>> for ViewsFault {
+    ghost use Rattle.sq_lists.specs.declared.refusal.ViewsFault.TheVariants.{Memory};
 
     ghost from_gives = { λ _ e. e ≡ Memory };
 
-    fn from(_: AllocFailed<T>) -> ViewsStop {
-        ViewsStop::Memory
+    fn from(_: AllocFailed<T>) -> ViewsFault {
+        ViewsFault::Memory
     }
 }

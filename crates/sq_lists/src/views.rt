@@ -10,7 +10,7 @@ ghost use Rattle.sq_typed.specs.Views.{first_rows, shown, verdict};
 
 use crate::query::list_query;
 use crate::sets::copies;
-use crate::{Listing, Stop, ViewsStop};
+use crate::{Listing, Stop, ViewsFault};
 use sq_catalog::{Relation, RelationKind};
 use sq_typed::{Program, Query};
 use sq_value::{NoMemory, Row};
@@ -68,16 +68,16 @@ fn list_view(
     listings: &[Listing],
     query: &Query,
     view: u32,
-) -> Result<Listing, ViewsStop>
+) -> Result<Listing, ViewsFault>
     requires { CanAnswer (map contents_of listings.now) query.now }
     ensures ok { IfOk result (λ l. Lists l (answer (map contents_of listings.now) query.now)) }
-    ensures number { (at : ℕ) → result ≡ Err (ViewsStop.Range at) → at ≡ view }
-    ensures range { (at : ℕ) → result ≡ Err (ViewsStop.Range at) → has_range_fault (answer (map contents_of listings.now) query.now) ≡ true }
+    ensures number { (at : ℕ) → result ≡ Err (ViewsFault.Range at) → at ≡ view }
+    ensures range { (at : ℕ) → result ≡ Err (ViewsFault.Range at) → has_range_fault (answer (map contents_of listings.now) query.now) ≡ true }
 {
     match list_query(alloc, listings, query) {
         Ok(listing) => Ok(listing),
-        Err(Stop::Range) => Err(ViewsStop::Range { view }),
-        Err(Stop::Memory) => Err(ViewsStop::Memory),
+        Err(Stop::Range) => Err(ViewsFault::Range { view }),
+        Err(Stop::Memory) => Err(ViewsFault::Memory),
     }
 }
 
@@ -89,13 +89,13 @@ fn with_view(
     i: u32,
     relation: &Relation,
     so_far: SoFar,
-) -> Result<SoFar, ViewsStop>
+) -> Result<SoFar, ViewsFault>
     requires walk { Walk program.now tables.now i so_far }
     requires at { slice_get program.now.catalog i ≡ Some relation.now }
     requires kind { IsView relation.now.kind }
     requires few { i + 1 < 2 ^ 32 }
     ensures ok { IfOk result (λ next. Walk program.now tables.now (i + 1) next) }
-    ensures range { (view : ℕ) → result ≡ Err (ViewsStop.Range view) → verdict program.now tables.now ≡ Some view }
+    ensures range { (view : ℕ) → result ≡ Err (ViewsFault.Range view) → verdict program.now tables.now ≡ Some view }
 {
     let mut so_far = so_far;
     let query = program.query(so_far.views);
@@ -114,12 +114,12 @@ fn with_relation(
     tables: &[Items<Row>],
     i: u32,
     so_far: SoFar,
-) -> Result<SoFar, ViewsStop>
+) -> Result<SoFar, ViewsFault>
     requires walk { Walk program.now tables.now i so_far }
     requires there { i < length program.now.catalog }
     requires few { i + 1 < 2 ^ 32 }
     ensures ok { IfOk result (λ next. Walk program.now tables.now (i + 1) next) }
-    ensures range { (view : ℕ) → result ≡ Err (ViewsStop.Range view) → verdict program.now tables.now ≡ Some view }
+    ensures range { (view : ℕ) → result ≡ Err (ViewsFault.Range view) → verdict program.now tables.now ≡ Some view }
 {
     let relation = program.catalog().at(i);
     match relation.kind {
@@ -136,11 +136,11 @@ pub fn list_views(
     alloc: Global,
     program: &Program,
     tables: &[Items<Row>],
-) -> Result<Vec<Items<Row>>, ViewsStop>
+) -> Result<Vec<Items<Row>>, ViewsFault>
     requires { TablesAreOfKinds tables.now program.now.catalog }
     ensures ok { IfOk result (λ lists. lists.items ≡ shown program.now tables.now) }
     ensures inside { OnOk result (verdict program.now tables.now ≡ Nothing) }
-    ensures range { (view : ℕ) → result ≡ Err (ViewsStop.Range view) → verdict program.now tables.now ≡ Some view }
+    ensures range { (view : ℕ) → result ≡ Err (ViewsFault.Range view) → verdict program.now tables.now ≡ Some view }
 {
     let relations = program.catalog();
     let mut so_far = SoFar {

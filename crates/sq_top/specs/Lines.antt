@@ -1,5 +1,5 @@
 -- The lines of an input, and where its program text ends.
-use Rattle.std.specs.Prelude.{◌≡◌, ◌⊎◌, ℕ, ◌<◌, length, ◌==◌, ◌||◌, Bool, List, [], ◌∷◌, ◌++◌, if◌then◌else◌, codes}
+use Rattle.std.specs.Prelude.{◌≡◌, ◌⊎◌, ℕ, ◌<◌, ◌≤◌, length, true, ◌==◌, ◌||◌, Bool, List, [], ◌∷◌, ◌++◌, if◌then◌else◌, codes}
 use Rattle.std.specs.List.{list_any}
 use Rattle.std.specs.Str.{bytes_eq}
 
@@ -39,3 +39,8 @@ text_before_end (line ∷ lines) = if is_end_line line then [] else line ++ line
 abbrev pub lines_after_end : List (List ℕ) → List (List ℕ)
 lines_after_end [] = []
 lines_after_end (line ∷ lines) = if is_end_line line then lines else lines_after_end lines
+
+-- the program text of an input that has an end line, and the bytes of its change lines
+abbrev pub AreParts : List ℕ → List ℕ → List ℕ → Type 0
+AreParts input text changes = (has_end_line (lines_of input) ≡ true) × (text ≡ text_before_end (lines_of input))
+    × (lines_of changes ≡ lines_after_end (lines_of input)) × (length changes ≤ length input)

@@ -123,15 +123,18 @@ pub record Seen : Type 0 where
 abbrev pub seen : Option (List ℕ) → ℕ → Seen
 seen bytes faults = record { bytes = bytes; faults = faults }
 
--- What a status says of the source, of the sink for the output and of the sink for errors, each before the run and after it. The
--- headline: once a run is finished, the sink took exactly the output of the input's program.
-pub record Ran (limit : ℕ) (source source_now out out_now err err_now : Seen) (status : Status) : Type 0 where
+-- What a status says of the source and of the sink for the output, each before the run and after it. The headline: once a run is
+-- finished, the sink took exactly the output of the input's program.
+pub record Ran (limit : ℕ) (source source_now out out_now : Seen) (status : Status) : Type 0 where
   pub headline : IsFinished status → IfSome source.bytes (IsWhole out.bytes out_now.bytes)
   pub input : Reads limit source.bytes source_now.bytes source.faults source_now.faults status
   pub judged : Judges source.bytes status
   pub output : Writes source.bytes out.bytes out_now.bytes out.faults out_now.faults status
-  pub told : (Rose err.faults err_now.faults → ⊥) → Tells source.bytes err.bytes err_now.bytes status
-  pub told_prefix : TellsPrefix source.bytes err.bytes err_now.bytes status
+
+-- What a status says of the sink for errors: it took the line that tells of the status, or a prefix of it if one of its writes failed.
+pub record Told (left : Option (List ℕ)) (err err_now : Seen) (status : Status) : Type 0 where
+  pub line : (Rose err.faults err_now.faults → ⊥) → Tells left err.bytes err_now.bytes status
+  pub prefix : TellsPrefix left err.bytes err_now.bytes status
 
 -- the line that tells of an ending
 abbrev pub ending_line : Ending → List ℕ

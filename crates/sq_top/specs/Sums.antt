@@ -1,11 +1,14 @@
 -- The changes that were printed so far, added up.
-use Rattle.std.specs.Prelude.{ℕ, List, [], ◌∷◌, ℤ, pos, ◌+ℤ◌}
+use Rattle.std.specs.Prelude.{ℕ, ◌+◌, List, [], ◌∷◌, ℤ, pos, ◌+ℤ◌, take}
+use Rattle.sq_value.specs.Count.{count}
 use Rattle.sq_lists.specs.Shown.{shown}
 use Rattle.sq_typed.specs.From.{Row}
 use Rattle.sq_typed.specs.Laws.{rows_in}
 use Rattle.sq_typed.specs.Tables.{Tables}
 use Rattle.sq_typed.specs.Views.{Meant}
 use Rattle.sq_top.specs.Ticks.{Outcome, Report, accepted, refused, tables_after}
+use Rattle.sq_top.specs.Output.{reports}
+use Rattle.sq_top.specs.Relations.{empty_tables}
 use Rattle.sq_top.specs.Texts.{changes}
 use Rattle.sq_value.specs.Order.{row_cmp}
 use Rattle.sq_algebra.specs.ZSet.{weight_in}
@@ -25,3 +28,11 @@ printed_sum p view row (r ∷ rs) = printed p view row r.0 r.1 +ℤ printed_sum 
 abbrev pub tables_now : Tables → List Report → Tables
 tables_now tables [] = tables
 tables_now tables (r ∷ rs) = tables_now (tables_after tables r.1) rs
+
+-- block 0 and the first ticks of some change lines
+abbrev pub first_reports : Meant → List (List ℕ) → ℕ → List Report
+first_reports p lines ticks = take (ticks + 1) (reports p lines)
+
+-- how often a view holds a row once these ticks are made
+abbrev pub times_held : Meant → ℕ → Row → List Report → ℕ
+times_held p view row rs = count row (rows_in (shown p (tables_now (empty_tables p.catalog) rs)) view)

@@ -1,6 +1,6 @@
 //! The program as one call, and the run that it makes.
 ghost use Rattle.std.specs.Prelude.{◌≡◌, ◌≢◌, ◌↔◌, ◌≤◌, ◌^◌, []};
-ghost use Rattle.sq_top.specs.Statuses.{Ran, seen};
+ghost use Rattle.sq_top.specs.Statuses.{Ran, Told, seen};
 
 use crate::session::run_input;
 use crate::statuses::Status;
@@ -29,8 +29,8 @@ pub fn top<R: Threads + Sync, S: Source, K: Sink, E: Sink, G: Gate>(
     ensures untouched { result ≡ Status.Usage
         → (input.new ≡ input.old) × (out.new ≡ out.old) × (err.new ≡ err.old) }
     ensures ran { Ran (2 ^ 40) (seen (S.left input.old) (S.faults input.old)) (seen (S.left input.new) (S.faults input.new))
-        (seen (K.taken out.old) (K.faults out.old)) (seen (K.taken out.new) (K.faults out.new))
-        (seen (E.taken err.old) (E.faults err.old)) (seen (E.taken err.new) (E.faults err.new)) result }
+        (seen (K.taken out.old) (K.faults out.old)) (seen (K.taken out.new) (K.faults out.new)) result }
+    ensures told { Told (S.left input.old) (seen (E.taken err.old) (E.faults err.old)) (seen (E.taken err.new) (E.faults err.new)) result }
 {
     if !words.is_empty() {
         return Status::Usage;
@@ -58,8 +58,8 @@ pub fn serve<R: Threads + Sync, S: Source, K: Sink, E: Sink, G: Gate>(
     requires workers { (1 ≤ workers) × (workers ≤ 64) }
     requires limit { limit ≤ 2 ^ 40 }
     ensures ran { Ran limit (seen (S.left input.old) (S.faults input.old)) (seen (S.left input.new) (S.faults input.new))
-        (seen (K.taken out.old) (K.faults out.old)) (seen (K.taken out.new) (K.faults out.new))
-        (seen (E.taken err.old) (E.faults err.old)) (seen (E.taken err.new) (E.faults err.new)) result }
+        (seen (K.taken out.old) (K.faults out.old)) (seen (K.taken out.new) (K.faults out.new)) result }
+    ensures told { Told (S.left input.old) (seen (E.taken err.old) (E.faults err.old)) (seen (E.taken err.new) (E.faults err.new)) result }
     ensures no_usage { result ≢ Status.Usage }
 {
     run_input(alloc, input, out, limit).tell(err)

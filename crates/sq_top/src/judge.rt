@@ -15,7 +15,7 @@ use crate::program_fault::ProgramFault;
 use crate::relations::{empty_tables, view_name};
 use sq_ast::Statement;
 use sq_check::{CheckFault, check};
-use sq_lists::{ViewsStop, list_views};
+use sq_lists::{ViewsFault, list_views};
 use sq_parse::{ParseFault, statements};
 use sq_token::{LexFault, Token, tokens};
 use sq_typed::Program;
@@ -173,11 +173,11 @@ fn judge_program(alloc: Global, program: Program) -> Result<Judged, JudgeStop>
             tables,
             shown,
         }),
-        Err(ViewsStop::Range { view }) => {
+        Err(ViewsFault::Range { view }) => {
             let view = view_name(alloc, program.catalog(), view)?;
             Err(JudgeStop::Fault(ProgramFault::Range { view }))
         }
-        Err(ViewsStop::Memory) => Err(JudgeStop::Memory),
+        Err(ViewsFault::Memory) => Err(JudgeStop::Memory),
     }
 }
 

@@ -1,18 +1,16 @@
 //! What holds of the definitions, each as the contract of a function that does nothing.
-ghost use Rattle.std.specs.Prelude.{◌≡◌, ◌+◌, ◌++◌, ℕ, List, [], pos, take, false, if◌then◌else◌};
+ghost use Rattle.std.specs.Prelude.{◌≡◌, ◌++◌, ℕ, List, [], pos, false, if◌then◌else◌};
 ghost use Rattle.std.specs.List.{enumerate_from, flat_map};
-ghost use Rattle.sq_value.specs.Count.{count};
 ghost use Rattle.sq_lists.specs.Shown.{shown};
 ghost use Rattle.sq_typed.specs.From.{Row};
 ghost use Rattle.sq_typed.specs.Laws.{rows_in};
 ghost use Rattle.sq_typed.specs.Views.{Meant};
 ghost use Rattle.sq_lines.specs.declared.line.Line.{Line as Said};
-ghost use Rattle.sq_top.specs.Output.{reports};
 ghost use Rattle.sq_top.specs.Programs.{IsProgram, HasFault};
 ghost use Rattle.sq_catalog.specs.Sorts.{is_printed, views_of};
-ghost use Rattle.sq_top.specs.Relations.{empty_tables};
-ghost use Rattle.sq_top.specs.Sums.{printed_sum, tables_now};
-ghost use Rattle.sq_top.specs.Texts.{accepted_text, changes, rise_text, tick_text};
+ghost use Rattle.sq_catalog.specs.declared.relation.Relation.{Relation};
+ghost use Rattle.sq_top.specs.Sums.{first_reports, printed_sum, times_held};
+ghost use Rattle.sq_top.specs.Texts.{accepted_text, changes, rise_text, tick_text, view_text, views_text};
 ghost use Rattle.sq_top.specs.Ticks.{accepted, outcome};
 ghost use Rattle.sq_top.specs.Updates.{updates_of, has_bad, outcome_after};
 ghost use Rattle.sq_top.specs.declared.program_fault.ProgramFault.{ProgramFault as Fault};
@@ -22,17 +20,19 @@ ghost use Rattle.sq_typed.specs.Tables.{Tables, after};
 /// the view holds the row over the tables now. `changes_are_printed` says that these numbers are those of the printed lines.
 #[tactic(auto, using(crate::proofs::SumLemmas::changes_add_up))]
 pub fn changes_add_up()
-    ensures { (p : Meant) (lines : List (List ℕ)) (k view : ℕ) (row : Row)
-        → printed_sum p view row (take (k + 1) (reports p lines))
-        ≡ pos (count row (rows_in (shown p (tables_now (empty_tables p.catalog) (take (k + 1) (reports p lines)))) view)) }
+    ensures { (p : Meant) (lines : List (List ℕ)) (ticks view : ℕ) (row : Row)
+        → printed_sum p view row (first_reports p lines ticks) ≡ pos (times_held p view row (first_reports p lines ticks)) }
 {}
 
-/// The text of an accepted tick has a line for each change of each view that is printed, in order, and then the line of the tick.
+/// The text of an accepted tick is that of its views in order and then the line of the tick. That of a view which is printed has a line for
+/// each of its changes, in row order, and that of another view has none.
 pub fn changes_are_printed()
-    ensures { (p : Meant) (tick : ℕ) (before : List (List Row)) (now : Tables) → tick_text p tick before (accepted now)
-        ≡ flat_map (λ v. if is_printed v.1.kind then flat_map (λ change. rise_text v.1 change.0 change.1)
-        (changes (rows_in before v.0) (rows_in (shown p now) v.0)) else []) (enumerate_from 0 (views_of p.catalog))
-        ++ accepted_text tick }
+    ensures tick { (p : Meant) (tick : ℕ) (before : List (List Row)) (now : Tables)
+        → tick_text p tick before (accepted now) ≡ views_text p.catalog before (shown p now) ++ accepted_text tick }
+    ensures views { (relations : List Relation) (before now : List (List Row)) → views_text relations before now
+        ≡ flat_map (λ v. view_text v.1 (rows_in before v.0) (rows_in now v.0)) (enumerate_from 0 (views_of relations)) }
+    ensures view { (view : Relation) (before now : List Row) → view_text view before now
+        ≡ (if is_printed view.kind then flat_map (λ change. rise_text view change.0 change.1) (changes before now) else []) }
 {}
 
 /// An input has at most one program and at most one fault, and never both.

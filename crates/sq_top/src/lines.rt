@@ -1,7 +1,7 @@
 //! The lines of an input, and where its program text ends.
-ghost use Rattle.std.specs.Prelude.{◌≡◌, ◌<◌, ◌≤◌, ◌==◌, [], length, MatchOption, true, false};
+ghost use Rattle.std.specs.Prelude.{◌≡◌, ◌<◌, ◌==◌, [], length, MatchOption, false};
 ghost use Rattle.std.specs.List.{position};
-ghost use Rattle.sq_top.specs.Lines.{line_feed, lines_of, IsFirstLine, is_end_line as is_end_line_lem, has_end_line, text_before_end, lines_after_end};
+ghost use Rattle.sq_top.specs.Lines.{line_feed, lines_of, AreParts, IsFirstLine, is_end_line as is_end_line_lem, has_end_line};
 
 /// The first line, without its line feed, and what stands after it; `None` if no byte is left.
 pub fn next_line(bytes: &[u8]) -> Option<(&[u8], &[u8])>
@@ -31,11 +31,7 @@ fn is_end_line(line: &[u8]) -> bool
 /// The program text, which ends before the first end line, and the change lines behind that line; `None` if
 /// there is no end line.
 pub fn split_program(input: &[u8]) -> Option<(&[u8], &[u8])>
-    ensures { MatchOption result (has_end_line (lines_of input.now) ≡ false)
-        (λ r. (has_end_line (lines_of input.now) ≡ true)
-        × (r.0.now ≡ text_before_end (lines_of input.now))
-        × (lines_of r.1.now ≡ lines_after_end (lines_of input.now))
-        × (length r.1.now ≤ length input.now)) }
+    ensures { MatchOption result (has_end_line (lines_of input.now) ≡ false) (λ r. AreParts input.now r.0.now r.1.now) }
 {
     let mut rest = input;
     while let Some((line, after)) = next_line(rest) {

@@ -15,7 +15,7 @@ ghost use Rattle.sq_top.specs.Outcomes.{outcome_of, Shows};
 use crate::refusal::Refusal;
 use crate::relations::view_name;
 use sq_lines::Line;
-use sq_lists::{ViewsStop, list_views};
+use sq_lists::{ViewsFault, list_views};
 use sq_typed::{Program, Update};
 use sq_value::{NoMemory, Row};
 use sqlite_items::Items;
@@ -60,11 +60,11 @@ fn end_tick(alloc: Global, program: &Program, tables: Vec<Items<Row>>) -> Result
 {
     match list_views(alloc, program, &tables) {
         Ok(shown) => Ok(Outcome::Accepted { tables, shown }),
-        Err(ViewsStop::Range { view }) => {
+        Err(ViewsFault::Range { view }) => {
             let view = view_name(alloc, program.catalog(), view)?;
             Ok(Outcome::Refused(Refusal::Range { view }))
         }
-        Err(ViewsStop::Memory) => Err(NoMemory),
+        Err(ViewsFault::Memory) => Err(NoMemory),
     }
 }
 

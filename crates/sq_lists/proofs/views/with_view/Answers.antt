@@ -4,7 +4,7 @@ use Rattle.std.specs.Prelude.{Some, true}
 use Rattle.sq_typed.specs.Queries.{answer, has_range_fault}
 use Rattle.sq_lists.specs.Answers.{CanAnswer, Lists}
 use Rattle.sq_lists.specs.Listings.{contents_of}
-use Rattle.sq_lists.specs.declared.refusal.ViewsStop.TheVariants.{Range}
+use Rattle.sq_lists.specs.declared.refusal.ViewsFault.TheVariants.{Range}
 use Rattle.sq_lists.proofs.Loops.{same_fault}
 use Rattle.sq_lists.proofs.ViewWalk.{view_can, view_goes, view_out, view_there}
 use Rattle.sq_lists.proofs.views.with_view.Goals as goal
