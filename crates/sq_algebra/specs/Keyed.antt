@@ -2,10 +2,10 @@
 --     at_key Q key c z       the part of z whose keys have the key c.       keys_of Q key z      the keys that z has, ascending
 --     by_key G Q key part z  the sum in G, over the keys that z has, of what part gives for the key and its part of z
 --     CoversOnce Q key cs z  each key that z has stands once in the list cs
---     is_key, at_some_key, some_keys_of, CoversSomeOnce      the same, where some keys have no key
+--     is_key, at_some_key, some_keys_of, CoversSomeOnce      the same, if some keys have no key
 --     groups_by Q key out xs    what out gives for each key of a list and its members with this key, in the order of first appearance
 --     Shards C               a list of shard numbers, and the shard of each key.      cut, over_shards     the part in a shard, and a sum over the shards
---     numbers_below n        the numbers below n, ascending: the shard numbers where there are n shards
+--     numbers_below n        the numbers below n, ascending: the shard numbers if there are n shards
 use Rattle.std.specs.Prelude.{◌≡◌, ℕ, zero, suc, List, [], ◌∷◌, ◌++◌, map, Bool, false, Option, Some, None}
 use Rattle.std.specs.List.{All, filter, filter_map, flat_map}
 use Rattle.std.specs.declared.cmp.Ordering.{Ordering}

@@ -56,7 +56,7 @@ module _ {L : Type 0} (U : L → L → Ordering) where
 abbrev pub meet : {K : Type 0} {R : K → K → Ordering} → ZSet K R → ZSet K R → ZSet K R
 meet {R = R} y z = product R (λ j k. cond (is_eq (R j k)) (j ∷ []) []) y z
 
--- the third, where the first two are there and the same
+-- the third, if the first two are there and the same
 abbrev pub where_same : {C L : Type 0} → (C → C → Ordering) → Option C → Option C → Option L → List L
 where_same Q (Some c) (Some d) (Some x) = cond (is_eq (Q c d)) (x ∷ []) []
 where_same Q _ _ _ = []

@@ -3,7 +3,7 @@
 --     entries z         its keys with their weights, ascending.        from_entries R es      the Z-set with these entries
 --     zero R, single R k      the empty Z-set, and the one that gives k the weight 1
 --     from_pairs R ps, of_list R xs      each key with the sum of its weights, and each key with its count
---     plus, negate, minus     key by key.              weight k z, total z     the weight of a key, 0 where it has none, and the sum of all weights
+--     plus, negate, minus     key by key.              weight k z, total z     the weight of a key, 0 if it has none, and the sum of all weights
 use Rattle.std.specs.Prelude.{◌≡◌, List, [], ◌∷◌, ◌++◌, map, Bool, true, false, cond, not, ◌&&◌, T, ℤ, pos, ◌+ℤ◌, neg_ℤ}
 use Rattle.std.specs.List.{list_all}
 use Rattle.std.specs.declared.cmp.Ordering.{Ordering}
@@ -118,7 +118,7 @@ module _ {K : Type 0} (R : K → K → Ordering) where
   of_list xs = from_pairs (map (λ x. (x, pos 1)) xs)
 
 module _ {K : Type 0} {R : K → K → Ordering} where
-  -- the weight of a key, 0 where it has none
+  -- the weight of a key, 0 if it has none
   unfoldable pub weight : K → ZSet K R → ℤ
   weight k z = weight_in R k (entries z)
 

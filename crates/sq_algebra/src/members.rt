@@ -3,8 +3,7 @@
 ghost use Rattle.std.specs.Prelude.{◌≡◌, ℤ, pos, neg_ℤ, List, [], ◌∷◌, ◌++◌, map, Bool, ◌⊎◌, ◌↔◌, IsTrue, int_lt};
 ghost use Rattle.std.specs.List.{Any, Contains, filter, flat_map, list_any};
 ghost use Rattle.std.specs.Ordering.{is_eq};
-ghost use Rattle.std.specs.declared.cmp.Ordering.{Ordering};
-ghost use Rattle.sq_algebra.specs.Orders.{IsOrder};
+ghost use Rattle.sq_algebra.specs.Orders.{IsOrder, Order};
 ghost use Rattle.sq_algebra.specs.Listed.{count, in_order};
 ghost use Rattle.sq_algebra.specs.ZSet.{ZSet, entries, from_pairs, of_list, weight, negate};
 ghost use Rattle.sq_algebra.specs.Groups.{z_sets, sum_over};
@@ -27,7 +26,7 @@ pub fn entries_are_members<K: Ord>()
 /// In short: `σ_p(z) = Σ_{p(k)} z(k) k`, `-z = Σ_k -z(k) k`, `distinct(z) = Σ_{z(k) > 0} k`.
 pub fn entries_of_operators<K: Ord, C>()
     ensures test { (p : K → Bool) (z : ZSet K K.cmp) → entries (keep p z) ≡ filter (λ e. p e.0) (entries z) }
-    ensures part { (Q : C → C → Ordering) (key : K → C) (c : C) (z : ZSet K K.cmp) → entries (at_key Q key c z) ≡ filter (λ e. is_eq (Q c (key e.0))) (entries z) }
+    ensures part { (Q : Order C) (key : K → C) (c : C) (z : ZSet K K.cmp) → entries (at_key Q key c z) ≡ filter (λ e. is_eq (Q c (key e.0))) (entries z) }
     ensures negation { (z : ZSet K K.cmp) → entries (negate z) ≡ map (λ e. (e.0, neg_ℤ e.1)) (entries z) }
     ensures distinct { IsOrder K.cmp → (z : ZSet K K.cmp) → entries (distinct z) ≡ map (λ e. (e.0, pos 1)) (filter (λ e. int_lt (pos 0) e.1) (entries z)) }
     ensures collected { (z : ZSet K K.cmp) → from_pairs K.cmp (entries z) ≡ z }

@@ -2,8 +2,7 @@
 
 ghost use Rattle.std.specs.Prelude.{◌≡◌, ℕ, List, Bool, IsTrue};
 ghost use Rattle.std.specs.List.{list_all};
-ghost use Rattle.std.specs.declared.cmp.Ordering.{Ordering};
-ghost use Rattle.sq_algebra.specs.Orders.{IsOrder};
+ghost use Rattle.sq_algebra.specs.Orders.{IsOrder, Order};
 ghost use Rattle.sq_algebra.specs.Keyed.{Shards, at_key, cut};
 ghost use Rattle.sq_algebra.specs.Operators.{image, keep};
 ghost use Rattle.sq_algebra.specs.Passing.{all_pass};
@@ -29,7 +28,7 @@ pub fn sums_pass<K: Ord>()
 pub fn parts_pass<K: Ord, C, D>()
     ensures kept { (p q : K → Bool) (z : ZSet K K.cmp) → IsTrue (all_pass p z) → IsTrue (all_pass p (keep q z)) }
     ensures tested { (p : K → Bool) (z : ZSet K K.cmp) → IsTrue (all_pass p (keep p z)) }
-    ensures part { (p : K → Bool) (Q : C → C → Ordering) (key : K → C) (c : C) (z : ZSet K K.cmp) → IsTrue (all_pass p z) → IsTrue (all_pass p (at_key Q key c z)) }
+    ensures part { (p : K → Bool) (Q : Order C) (key : K → C) (c : C) (z : ZSet K K.cmp) → IsTrue (all_pass p z) → IsTrue (all_pass p (at_key Q key c z)) }
     ensures shard { (p : K → Bool) (S : Shards D) (key : K → D) (s : ℕ) (z : ZSet K K.cmp) → IsTrue (all_pass p z) → IsTrue (all_pass p (cut S key s z)) }
 {}
 
