@@ -100,7 +100,7 @@ argument_fits kinds f (Some e) = not (is_count_all f) && (suits kinds e && (not 
 abbrev pub ArgumentSuits : List Kind → BlockCall → Type 0
 ArgumentSuits kinds c = AllByRecursion (Suits kinds) (option_to_list c.arg)
 
--- a block has groups by this
+-- this is how a block is grouped
 abbrev pub IsGroupedBy : Block → Grouping → Type 0
 IsGroupedBy b g = (out-Block b).grouping ≡ Some g
 

@@ -81,7 +81,7 @@ inserts table row updates = count_by (λ u. u.insert && ((u.table == table) && i
 abbrev pub deletes : ℕ → Row → List Update → ℕ
 deletes table row updates = count_by (λ u. not u.insert && ((u.table == table) && is_eq (row_cmp row u.row))) updates
 
--- the updates can be made in order, and lead from the one tables to the other
+-- the updates can be made in order, and lead from these tables to those
 abbrev pub LeadTo : Tables → List Update → Tables → Type 0
 LeadTo tables updates now = after tables updates ≡ Ok now
 

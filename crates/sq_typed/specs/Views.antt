@@ -1,6 +1,6 @@
 -- The views of a program over its tables.
 --     Meant        a catalogue and the query of each view.       views p tables      what each view gives
---     verdict      the first view that cannot be shown
+--     verdict      the first view that cannot be shown.        shown p tables      the rows of each view
 use Rattle.std.specs.Prelude.{ℕ, List, [], ◌∷◌, ◌++◌, fold, length, map, drop, position, Option, Some, None}
 use Rattle.std.specs.List.{slice_get}
 use Rattle.sq_catalog.specs.declared.relation.Relation.{Relation}
