@@ -3,6 +3,5 @@ pub mod Stops
 pub mod Values
 pub mod Stages
 pub mod BlockFits
-pub mod Shown
 pub mod Walks
 pub mod Answers

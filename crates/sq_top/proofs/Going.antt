@@ -8,7 +8,7 @@ use Rattle.std.proofs.Math.Seq.{take-append_seam, take-append-add}
 use Rattle.std.proofs.lemmas.List.{take-append-le}
 use Rattle.sq_lines.specs.Lines.{decoded, is_commit}
 use Rattle.sq_lines.specs.declared.line.Line.{Line}
-use Rattle.sq_lists.specs.Shown.{shown}
+use Rattle.sq_typed.specs.Views.{shown}
 use Rattle.sq_typed.specs.From.{Row}
 use Rattle.sq_typed.specs.Views.{Meant}
 use Rattle.sq_top.proofs.Reports.{still_begins, some_ticks}

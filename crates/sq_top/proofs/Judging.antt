@@ -21,7 +21,7 @@ use Rattle.sq_check.specs.declared.program.CheckFault.{CheckFault}
 use Rattle.sq_check.specs.declared.program.CheckFault.TheVariants as checking
 use Rattle.sq_typed.specs.Faults.{refused}
 use Rattle.sq_typed.specs.declared.check_kind.CheckKind.{CheckKind}
-use Rattle.sq_lists.specs.Shown.{shown}
+use Rattle.sq_typed.specs.Views.{shown}
 use Rattle.sq_typed.specs.Fit.{TablesAreOfKinds}
 use Rattle.sq_typed.specs.From.{Row}
 use Rattle.sq_typed.specs.Programs.{Typed}

@@ -6,7 +6,7 @@ use Rattle.std.specs.Prelude.{IfErr, Result}
 use Rattle.std.proofs.lemmas.List.Splits.{length-slice_split}
 use Rattle.sq_lines.specs.Lines.{is_commit, is_blank}
 use Rattle.sq_lines.specs.declared.line.Line.{Line}
-use Rattle.sq_lists.specs.Shown.{shown}
+use Rattle.sq_typed.specs.Views.{shown}
 use Rattle.sq_typed.specs.Tables.{Tables}
 use Rattle.sq_typed.specs.Views.{Meant}
 use Rattle.sq_top.specs.declared.refusal.Refusal.TheVariants.{Unfinished}

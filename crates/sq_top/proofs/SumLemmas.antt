@@ -5,7 +5,7 @@ use Rattle.std.specs.List.{list_all}
 use borrow.Author.Differences.{ints}
 use Rattle.sq_lines.specs.Lines.{is_blank}
 use Rattle.sq_lines.specs.declared.line.Line.{Line}
-use Rattle.sq_lists.specs.Shown.{shown}
+use Rattle.sq_typed.specs.Views.{shown}
 use Rattle.sq_typed.specs.From.{Row}
 use Rattle.sq_typed.specs.Laws.{rows_in}
 use Rattle.sq_typed.specs.Tables.{Tables}

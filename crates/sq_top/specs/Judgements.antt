@@ -1,6 +1,6 @@
 -- What the judgement of a program hands on.
 use Rattle.std.specs.Prelude.{◌≡◌, ℕ, Some, None, ⊤}
-use Rattle.sq_lists.specs.Shown.{shown}
+use Rattle.sq_typed.specs.Views.{shown}
 use Rattle.sq_typed.specs.Fit.{TablesAreOfKinds}
 use Rattle.sq_typed.specs.Views.{Meant}
 use Rattle.sq_top.specs.Programs.{empty_verdict}

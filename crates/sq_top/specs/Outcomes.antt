@@ -1,6 +1,6 @@
 -- What the code's `Outcome` says.
 use Rattle.std.specs.Prelude.{◌≡◌, ⊤}
-use Rattle.sq_lists.specs.Shown.{shown}
+use Rattle.sq_typed.specs.Views.{shown}
 use Rattle.sq_typed.specs.Fit.{TablesAreOfKinds}
 use Rattle.sq_typed.specs.Views.{Meant}
 use Rattle.sq_top.specs.Ticks as tick

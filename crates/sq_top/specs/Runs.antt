@@ -5,7 +5,7 @@ use Rattle.std.specs.Io.KnownBytes.{Appends, Keeps}
 use Rattle.sq_base.specs.Causes.{Rose}
 use Rattle.sq_top.specs.Fits.{Fits}
 use Rattle.sq_lines.specs.declared.line.Line.{Line}
-use Rattle.sq_lists.specs.Shown.{shown}
+use Rattle.sq_typed.specs.Views.{shown}
 use Rattle.sq_typed.specs.Fit.{TablesAreOfKinds}
 use Rattle.sq_typed.specs.Views.{Meant}
 use Rattle.sq_top.specs.Relations.{empty_tables}

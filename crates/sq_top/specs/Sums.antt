@@ -1,7 +1,7 @@
 -- The changes that were printed so far, added up.
 use Rattle.std.specs.Prelude.{ℕ, ◌+◌, List, [], ◌∷◌, ℤ, pos, ◌+ℤ◌, take}
 use Rattle.sq_value.specs.Count.{count}
-use Rattle.sq_lists.specs.Shown.{shown}
+use Rattle.sq_typed.specs.Views.{shown}
 use Rattle.sq_typed.specs.From.{Row}
 use Rattle.sq_typed.specs.Laws.{rows_in}
 use Rattle.sq_typed.specs.Tables.{Tables}

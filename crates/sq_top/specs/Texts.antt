@@ -11,7 +11,7 @@ use Rattle.sq_value.specs.declared.value.Value.{Value}
 use Rattle.sq_value.specs.declared.value.Value.TheVariants.{Null, Int, Text}
 use Rattle.sq_value.specs.Order.{row_cmp}
 use Rattle.sq_value.specs.Count.{count}
-use Rattle.sq_lists.specs.Shown.{shown}
+use Rattle.sq_typed.specs.Views.{shown}
 use Rattle.sq_typed.specs.From.{Row}
 use Rattle.sq_typed.specs.Laws.{rows_in}
 use Rattle.sq_typed.specs.Views.{Meant}

@@ -5,7 +5,7 @@ use Rattle.sq_catalog.specs.declared.relation.Relation.{Relation}
 use Rattle.sq_lines.specs.Lines.{decoded, is_blank, is_commit}
 use Rattle.sq_lines.specs.declared.line.Line.{Line}
 use Rattle.sq_lines.specs.declared.line.Line.TheVariants.{Update, Commit, Blank, Bad}
-use Rattle.sq_lists.specs.Shown.{shown}
+use Rattle.sq_typed.specs.Views.{shown}
 use Rattle.sq_typed.specs.From.{Row}
 use Rattle.sq_typed.specs.Tables.{Tables, at_table, changed_rows}
 use Rattle.sq_typed.specs.Views.{Meant, verdict}

@@ -1,7 +1,7 @@
 //! What holds of the definitions, each as the contract of a function that does nothing.
 ghost use Rattle.std.specs.Prelude.{◌≡◌, ◌++◌, ℕ, List, [], pos, false, if◌then◌else◌};
 ghost use Rattle.std.specs.List.{enumerate_from, flat_map};
-ghost use Rattle.sq_lists.specs.Shown.{shown};
+ghost use Rattle.sq_typed.specs.Views.{shown};
 ghost use Rattle.sq_typed.specs.From.{Row};
 ghost use Rattle.sq_typed.specs.Laws.{rows_in};
 ghost use Rattle.sq_typed.specs.Views.{Meant};

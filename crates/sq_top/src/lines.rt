@@ -1,5 +1,5 @@
 //! The lines of an input, and where its program text ends.
-ghost use Rattle.std.specs.Prelude.{◌≡◌, ◌<◌, ◌==◌, [], length, MatchOption, false};
+ghost use Rattle.std.specs.Prelude.{◌≡◌, ◌<◌, ◌==◌, [], MatchOption, false};
 ghost use Rattle.std.specs.List.{position};
 ghost use Rattle.sq_top.specs.Lines.{line_feed, lines_of, AreParts, IsFirstLine, is_end_line as is_end_line_lem, has_end_line};
 

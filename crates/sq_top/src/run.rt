@@ -4,7 +4,7 @@ ghost use Rattle.std.specs.List.{list_any, list_all};
 ghost use Rattle.std.specs.Io.KnownBytes.{Appends};
 ghost use Rattle.sq_lines.specs.Lines.{is_blank};
 ghost use Rattle.sq_top.specs.Fits.{Fits};
-ghost use Rattle.sq_lists.specs.Shown.{shown};
+ghost use Rattle.sq_typed.specs.Views.{shown};
 ghost use Rattle.sq_typed.specs.Views.{Meant};
 ghost use Rattle.sq_top.specs.Ticks.{tables_after, is_refusal};
 ghost use Rattle.sq_top.specs.Outcomes.{outcome_of, Shows};

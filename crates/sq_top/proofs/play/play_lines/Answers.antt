@@ -1,7 +1,7 @@
 use Rattle.std.proofs.Common.{[], ◌+◌, arith, ap, ◌∙◌}
 use Rattle.std.proofs.lemmas.Result.{err_from_is_err_and, IfOk-weaker, IfErr-weaker, on_ok_weaker}
 use Rattle.sq_lines.specs.Lines.{decoded}
-use Rattle.sq_lists.specs.Shown.{shown}
+use Rattle.sq_typed.specs.Views.{shown}
 use Rattle.sq_top.specs.Lines.{lines_of}
 use Rattle.sq_top.specs.Runs.{still}
 use Rattle.sq_top.specs.Ticks.{lines_from}
