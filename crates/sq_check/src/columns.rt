@@ -36,10 +36,10 @@ fn items_count(scope: &Scope, items: &[ItemTree]) -> u128
     count
 }
 
-// A star stands for at most all columns, of which there are fewer than 2^32.
+// A star stands for at most all columns, of which there are fewer than 2^64.
 fn item_count(scope: &Scope, item: &ItemTree) -> u128
     ensures count { result ≡ length (written_out scope.now item.now) }
-    ensures few { result ≤ 2 ^ 32 }
+    ensures few { result ≤ 2 ^ 64 }
 {
     let width = scope.width() as u128;
     match item {

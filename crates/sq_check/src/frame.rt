@@ -48,7 +48,7 @@ impl<'a> Frame<'a> {
     }
 
     /// The place of a column of the sources, by its number, in the row over which the items are. Takes no memory.
-    pub(crate) fn place_of(&self, number: u32) -> u32
+    pub(crate) fn place_of(&self, number: usize) -> usize
         ensures { result ≡ frame_place self.now number }
     {
         if self.grouped {

@@ -9,7 +9,7 @@ use crate::frame::Frame;
 use sq_ast::{ExprTree, ItemTree};
 use sq_catalog::Column;
 use sq_expr::Expr;
-use sq_scope::{ListItem, Scope, chosen, kind_of};
+use sq_scope::{ListItem, Scope, chosen, column_number, kind_of};
 use sq_value::{NoMemory, Str};
 use sqlite_items::Items;
 use std::alloc::Global;
@@ -20,7 +20,9 @@ impl<'a> Frame<'a> {
         ensures { IfOk result (λ e. e ≡ frame_item self.now (chosen_of item.now)) }
     {
         match item {
-            ListItem::Starred { number, .. } => Ok(Expr::Column(self.place_of(*number))),
+            ListItem::Starred { number, .. } => {
+                Ok(Expr::Column(column_number(self.place_of(*number))?))
+            }
             ListItem::Written { expr, .. } => self.expr(alloc, expr),
         }
     }

@@ -56,7 +56,7 @@ pub fn typed_block(
     let items = typed_items(alloc, &frame, scope, block.items.as_slice())?;
     let filter = typed_filter(alloc, &frame.row, &block.filter)?;
     let having = typed_having(alloc, &frame.row, &frame.groups, &block.having)?;
-    let grouping = grouping_of(frame.grouped, frame.into_groups(), having);
+    let grouping = grouping_of(alloc, frame.grouped, frame.into_groups(), having)?;
     let typed = Block {
         distinct: block.distinct,
         sources,
@@ -110,18 +110,24 @@ fn typed_having(
 }
 
 // The grouping of a block with these groups and this condition of HAVING, if it is grouped.
-fn grouping_of(grouped: bool, groups: Groups, having: Option<Cond>) -> Option<Grouping>
-    ensures { result ≡ grouping_of grouped groups.keys.numbers groups.calls having }
+fn grouping_of(
+    alloc: Global,
+    grouped: bool,
+    groups: Groups,
+    having: Option<Cond>,
+) -> Result<Option<Grouping>, NoMemory>
+    ensures { IfOk result (λ grouping. grouping ≡ grouping_of grouped groups.keys.numbers groups.calls having) }
 {
     if !grouped {
-        return None;
+        return Ok(None);
     }
     let Groups { keys, calls } = groups;
-    Some(Grouping {
-        columns: keys.into_numbers(),
+    let columns = keys.column_numbers(alloc)?;
+    Ok(Some(Grouping {
+        columns,
         calls,
         having,
-    })
+    }))
 }
 
 impl<'a> Frame<'a> {

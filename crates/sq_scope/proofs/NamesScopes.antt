@@ -112,21 +112,14 @@ laid_more ks now bs after ss i d cs within laid listed here grown end ends pushe
       ] refl;
     }
 
-pub begin_fits : (ss : Scope) (layout : Layout) (i begin : ℕ) → IsLaidOut ss layout → i < length ss → begin ≡ get_or layout.begins.items i begin → begin < 2 ^ 32
-begin_fits ss layout i begin laid within is =
-    let early : i ≤ length ss = omega arith in
-    let start : begin ≡ length (columns_in (take i ss)) = is ∙ (read_begin layout.begins.items i begin (omega (arith, laid.all)) ∙ laid.begins i early) in
-    let whole : length layout.kinds.items ≡ length (columns_in ss) = ap length laid.kinds ∙ length-map (columns_in ss) (λ c. c.kind) in
-    omega (arith, width-take ss i, laid.few)
-
 pub begin_is : (ss : Scope) (layout : Layout) (i begin : ℕ) → IsLaidOut ss layout → i < length ss → begin ≡ get_or layout.begins.items i begin → begin ≡ length (columns_in (take i ss))
 begin_is ss layout i begin laid within is =
     let early : i ≤ length ss = omega arith in
     is ∙ (read_begin layout.begins.items i begin (omega (arith, laid.all)) ∙ laid.begins i early)
 
--- the numbers of the columns of a source fit 32 bits
+-- the numbers of the columns of a source fit 64 bits
 pub columns_fit : (ss : Scope) (layout : Layout) (i begin : ℕ) (d : Named) (cs : List Column) → IsLaidOut ss layout → i < length ss → begin ≡ get_or layout.begins.items i begin →
-    cs ≡ d.columns → d ≡ get_or ss i d → begin + length cs < 2 ^ 32
+    cs ≡ d.columns → d ≡ get_or ss i d → begin + length cs < 2 ^ 64
 columns_fit ss layout i begin d cs laid within is listed here =
     let start : begin ≡ length (columns_in (take i ss)) = begin_is ss layout i begin laid within is in
     let whole : length layout.kinds.items ≡ length (columns_in ss) = ap length laid.kinds ∙ length-map (columns_in ss) (λ c. c.kind) in
@@ -143,7 +136,7 @@ columns_at (s ∷ ss) (suc i) d below = columns_at ss i d (omega (arith, below))
 
 -- so do those of the source at a place
 pub end_fits : (ss : Scope) (layout : Layout) (i begin : ℕ) → IsLaidOut ss layout → i < length ss → begin ≡ get_or layout.begins.items i begin →
-    begin + length (get_or (map (λ s. s.columns) ss) i []) < 2 ^ 32
+    begin + length (get_or (map (λ s. s.columns) ss) i []) < 2 ^ 64
 end_fits ss layout i begin laid within is =
     columns_fit ss layout i begin (get_or ss i nobody) (get_or (map (λ s. s.columns) ss) i []) laid within is (columns_at ss i nobody within) (get_or_default ss i nobody (get_or ss i nobody) within)
 

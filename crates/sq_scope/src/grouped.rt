@@ -5,8 +5,8 @@ ghost use Rattle.sq_typed.specs.Numbered.{call_kind, kind_of};
 ghost use Rattle.sq_scope.specs.TypesGroups.{call_kinds, key_kinds, over_group, over_group_cond, over_group_term, place_of_call, place_of_key};
 
 use crate::calls::call_place;
-use crate::keys::{Keys, column_number};
-use crate::numbered::{cmp_of, typed_call};
+use crate::keys::Keys;
+use crate::numbered::{cmp_of, column_number, typed_call};
 use crate::sources_row::Row;
 use sq_ast::{CondTree, ExprTree, FuncTree, TermTree};
 use sq_expr::{Cond, Expr, Func, Kind, Term};
@@ -47,7 +47,9 @@ pub fn group_expr(
         )?)),
         ExprTree::Number(number) => Ok(Expr::Number(*number)),
         ExprTree::Text(text) => Ok(Expr::Text(text.clone_str(alloc)?)),
-        ExprTree::Column(r) => Ok(Expr::Column(groups.place_of_key(row.number_of(r)))),
+        ExprTree::Column(r) => Ok(Expr::Column(column_number(groups.place_of_key(row.number_of(
+            r,
+        )))?)),
         ExprTree::Call { func, arg } => Ok(Expr::Column(place_of_call(
             alloc, row, groups, *func, arg,
         )?)),
@@ -155,7 +157,7 @@ fn group_conds(
 
 impl Groups {
     /// The place in the group row of the column with this number, 0 if it is none of GROUP BY. Takes no memory.
-    pub fn place_of_key(&self, number: u32) -> u32
+    pub fn place_of_key(&self, number: usize) -> usize
         ensures { result ≡ place_of_key self.now.keys.numbers number }
     {
         self.keys.place_of(number).unwrap_or(0)
@@ -187,7 +189,7 @@ pub fn group_kinds(alloc: Global, kinds: &[Kind], groups: &Groups) -> Result<Ite
     Ok(typed)
 }
 
-fn key_kinds(alloc: Global, kinds: &[Kind], numbers: &[u32]) -> Result<Items<Kind>, NoMemory>
+fn key_kinds(alloc: Global, kinds: &[Kind], numbers: &[usize]) -> Result<Items<Kind>, NoMemory>
     ensures { IfOk result (λ ks. ks ≡ key_kinds kinds.now numbers.now) }
 {
     let mut typed = Items::new(alloc);
@@ -224,17 +226,17 @@ pub fn kind_of(kinds: &[Kind], expr: &Expr) -> Kind
     ensures { result ≡ kind_of kinds.now expr.now }
 {
     match expr {
-        Expr::Column(at) => kind_at(kinds, *at),
+        Expr::Column(at) => kind_at(kinds, *at as usize),
         Expr::Text(_) => Kind::Text,
         Expr::Number(_) | Expr::Neg(_) | Expr::Sum(_) | Expr::Product(_) => Kind::Bigint,
     }
 }
 
 /// The kind of the column with this number, BIGINT if there is none. Takes no memory.
-pub fn kind_at(kinds: &[Kind], number: u32) -> Kind
+pub fn kind_at(kinds: &[Kind], number: usize) -> Kind
     ensures { result ≡ get_or kinds.now number Bigint }
 {
-    match kinds.get(number as usize) {
+    match kinds.get(number) {
         Some(kind) => *kind,
         None => Kind::Bigint,
     }

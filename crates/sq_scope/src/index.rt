@@ -55,7 +55,7 @@ fn placed(
 {
     let mut by_column = BTreeMap::new(alloc);
     for i in 0..sources.len() {
-        let begin = layout.begins[i] as u32;
+        let begin = layout.begins[i];
         add_columns(alloc, &mut by_column, i, begin, sources[i].columns())?;
     }
     Ok(by_column)
@@ -67,7 +67,7 @@ pub struct Place {
     // The number of its source.
     pub source: usize,
     // Its number among the columns of all sources.
-    pub number: u32,
+    pub number: usize,
 }
 
 // Puts a place behind those of the name.
@@ -125,15 +125,15 @@ fn add_columns(
     alloc: Global,
     places: &mut BTreeMap<String, Vec<Place>>,
     source: usize,
-    begin: u32,
+    begin: usize,
     columns: &[Column],
 ) -> Result<(), NoMemory>
-    requires few { begin + length columns.now < 2 ^ 32 }
+    requires few { begin + length columns.now < 2 ^ 64 }
     requires behind { (q : Text) → AllByRecursion (λ p. p.source < source) (spots_of places.old q) }
     ensures { OnOk result ((q : Text) → spots_of places.new q ≡ spots_of places.old q ++ spot_at source begin (position (λ c. bytes_eq q c.name) columns.now)) }
 {
     for (i, column) in columns.iter().enumerate() {
-        let number = begin + i as u32;
+        let number = begin + i;
         add_first_place(
             alloc,
             places,
@@ -173,7 +173,7 @@ pub fn places_before(places: &[Place], sources: usize) -> usize
 }
 
 // The number of the column in a source that is among the first.
-pub fn number_before(places: &[Place], source: usize, sources: usize) -> Option<u32>
+pub fn number_before(places: &[Place], source: usize, sources: usize) -> Option<usize>
     requires { IsRising places.now }
     ensures { option_to_list result ≡ found_in sources places.now source }
 {
@@ -185,7 +185,7 @@ pub fn number_before(places: &[Place], source: usize, sources: usize) -> Option<
 }
 
 // The number of the column in a source.
-fn number_in(places: &[Place], source: usize) -> Option<u32>
+fn number_in(places: &[Place], source: usize) -> Option<usize>
     requires { IsRising places.now }
     ensures { option_to_list result ≡ numbers_at source places.now }
 {
@@ -193,7 +193,7 @@ fn number_in(places: &[Place], source: usize) -> Option<u32>
 }
 
 // The number of the place, if it is in the source.
-fn number_if(place: Option<&Place>, source: usize) -> Option<u32>
+fn number_if(place: Option<&Place>, source: usize) -> Option<usize>
     ensures { option_to_list result ≡ number_if_at source (option_copied place.entry) }
 {
     match place {

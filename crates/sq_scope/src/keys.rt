@@ -5,6 +5,7 @@ ghost use Rattle.std.specs.List.{list_any};
 ghost use Rattle.std.specs.Option.{option_or};
 ghost use Rattle.sq_typed.specs.Scopes.{number_of};
 
+use crate::numbered::column_number;
 use crate::sources_row::Row;
 use sq_ast::ColRef;
 use sq_value::NoMemory;
@@ -15,9 +16,9 @@ use std::collections::HashMap;
 /// The columns of GROUP BY, by their numbers.
 #[derive(Drop)]
 pub struct Keys {
-    pub numbers: Items<u32>,
+    pub numbers: Items<usize>,
     // The first place of each number.
-    places: HashMap<u32, u32>,
+    places: HashMap<usize, usize>,
     ghost placed: { (n : ℕ) → get nat_eq places n ≡ position (λ k. k == n) numbers },
 }
 
@@ -30,7 +31,7 @@ impl Keys {
         let mut places = HashMap::new(alloc);
         for r in group {
             let number = row.number_of(r);
-            let place = column_number(numbers.len())?;
+            let place = numbers.len();
             keep_first(&mut places, number, place)?;
             numbers.push(number)?;
         }
@@ -38,14 +39,14 @@ impl Keys {
     }
 
     /// The first place of the column with this number. Takes no memory.
-    pub fn place_of(&self, number: u32) -> Option<u32>
+    pub fn place_of(&self, number: usize) -> Option<usize>
         ensures { result ≡ position (λ k. k == number) self.now.numbers }
     {
         self.places.get(&number).copied()
     }
 
     /// Whether the column with this number is none of them. Takes no memory.
-    pub fn lacks(&self, number: u32) -> bool
+    pub fn lacks(&self, number: usize) -> bool
         ensures { result ≡ not (list_any (λ k. k == number) self.now.numbers) }
     {
         match self.place_of(number) {
@@ -54,29 +55,33 @@ impl Keys {
         }
     }
 
-    /// The numbers of the columns. Takes no memory.
-    pub fn into_numbers(self) -> Items<u32>
-        ensures { result ≡ self.numbers }
+    /// The numbers of the columns as those of columns in expressions, or `NoMemory` if memory runs out or if one of them is 2^32
+    /// or more.
+    pub fn column_numbers(&self, alloc: Global) -> Result<Items<u32>, NoMemory>
+        ensures { IfOk result (λ columns. columns ≡ self.now.numbers) }
     {
-        let Keys { numbers, places: _ } = self;
-        numbers
+        column_numbers(alloc, self.numbers.as_slice())
     }
 }
 
 // Puts the place at the number, if it has none.
-fn keep_first(places: &mut HashMap<u32, u32>, number: u32, place: u32) -> Result<(), NoMemory>
+fn keep_first(
+    places: &mut HashMap<usize, usize>,
+    number: usize,
+    place: usize,
+) -> Result<(), NoMemory>
     ensures { OnOk result ((n : ℕ) → get nat_eq places.new n ≡ option_or (get nat_eq places.old n) (if number == n then Some place else None)) }
 {
     places.entry(number)?.or_insert(place);
     Ok(())
 }
 
-/// The number as that of a column, or `NoMemory` if it is 2^32 or more.
-pub fn column_number(number: usize) -> Result<u32, NoMemory>
-    ensures { IfOk result (λ column. column ≡ number) }
+fn column_numbers(alloc: Global, numbers: &[usize]) -> Result<Items<u32>, NoMemory>
+    ensures { IfOk result (λ columns. columns ≡ numbers.now) }
 {
-    match u32::try_from(number) {
-        Ok(number) => Ok(number),
-        Err(_) => Err(NoMemory),
+    let mut columns = Items::new(alloc);
+    for number in numbers {
+        columns.push(column_number(*number)?)?;
     }
+    Ok(columns)
 }

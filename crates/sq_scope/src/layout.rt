@@ -16,7 +16,7 @@ pub struct Layout {
     pub begins: Vec<usize>,
 }
 
-// Where the columns of the sources stand, of which there are fewer than 2^32.
+// Where the columns of the sources stand.
 pub fn laid_out(alloc: Global, sources: &[Source]) -> Result<Layout, NoMemory>
     ensures { IfOk result (λ layout. IsLaidOut sources.now layout) }
 {
@@ -29,9 +29,5 @@ pub fn laid_out(alloc: Global, sources: &[Source]) -> Result<Layout, NoMemory>
         }
         begins.push(kinds.len())?;
     }
-    if kinds.len() < 1 << 32 {
-        Ok(Layout { kinds, begins })
-    } else {
-        Err(NoMemory)
-    }
+    Ok(Layout { kinds, begins })
 }

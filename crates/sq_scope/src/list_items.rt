@@ -13,7 +13,7 @@ use std::alloc::Global;
 #[derive(Drop)]
 pub enum ListItem<'a> {
     Starred {
-        number: u32,
+        number: usize,
         column: &'a Column,
     },
     Written {
@@ -88,15 +88,15 @@ fn columns_at<'a>(
 // The columns, with their numbers from this one on.
 fn numbered<'a>(
     alloc: Global,
-    begin: u32,
+    begin: usize,
     columns: &'a [Column],
 ) -> Result<Vec<ListItem<'a>>, NoMemory>
-    requires few { begin + length columns.now < 2 ^ 32 }
+    requires few { begin + length columns.now < 2 ^ 64 }
     ensures { IfOk result (λ items. map chosen_of items.items ≡ starred_from begin columns.now) }
 {
     let mut items = Vec::new(alloc);
     for (i, column) in columns.iter().enumerate() {
-        let number = begin + i as u32;
+        let number = begin + i;
         items.push(ListItem::Starred { number, column })?;
     }
     Ok(items)

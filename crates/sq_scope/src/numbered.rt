@@ -30,7 +30,7 @@ pub fn row_expr(alloc: Global, row: &Row, tree: &ExprTree) -> Result<Expr, NoMem
         )?)),
         ExprTree::Number(number) => Ok(Expr::Number(*number)),
         ExprTree::Text(text) => Ok(Expr::Text(text.clone_str(alloc)?)),
-        ExprTree::Column(r) => Ok(Expr::Column(row.number_of(r))),
+        ExprTree::Column(r) => Ok(Expr::Column(column_number(row.number_of(r))?)),
         ExprTree::Call { .. } => Ok(Expr::Number(0)),
     }
 }
@@ -102,6 +102,16 @@ fn row_conds(alloc: Global, row: &Row, conds: &[CondTree]) -> Result<Items<Cond>
         typed.push(row_cond(alloc, row, cond)?)?;
     }
     Ok(typed)
+}
+
+/// The number as that of a column in an expression. Such numbers have 32 bits: the answer is `NoMemory` for 2^32 and more.
+pub fn column_number(number: usize) -> Result<u32, NoMemory>
+    ensures { IfOk result (λ column. column ≡ number) }
+{
+    match u32::try_from(number) {
+        Ok(number) => Ok(number),
+        Err(_) => Err(NoMemory),
+    }
 }
 
 /// What a comparison is in a typed condition.

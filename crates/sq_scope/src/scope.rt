@@ -77,7 +77,7 @@ impl<'a> Source<'a> {
 
 /// The sources of a FROM in order, and which columns references find in them.
 ///
-/// Asked about a number of sources, it speaks of so many of the first ones. It keeps fewer than 2^32 columns.
+/// Asked about a number of sources, it speaks of so many of the first ones.
 #[derive(Debug, Drop)]
 pub struct Scope<'a> {
     sources: Vec<Source<'a>>,
@@ -98,7 +98,7 @@ impl<'a> Model for Scope<'a> {
 }
 
 impl<'a> Scope<'a> {
-    /// A scope of these sources. The answer is `NoMemory` if memory runs out, or if they have 2^32 columns or more.
+    /// A scope of these sources. The answer is `NoMemory` if memory runs out.
     pub fn of(alloc: Global, sources: Vec<Source<'a>>) -> Result<Scope<'a>, NoMemory>
         ensures { IfOk result (λ scope. scope ≡ sources.entry.items) }
     {
@@ -133,20 +133,20 @@ impl<'a> Scope<'a> {
         &self.layout.kinds[..end]
     }
 
-    /// Where the columns of the source at this place begin among those of all sources. They end before 2^32. Takes no memory.
-    pub fn begin(&self, place: usize) -> u32
+    /// Where the columns of the source at this place begin among those of all sources. Their numbers fit. Takes no memory.
+    pub fn begin(&self, place: usize) -> usize
         requires { place < length self.now }
         ensures begin { result ≡ length (columns_in (take place self.now)) }
-        ensures few { result + length (get_or (map (λ s. s.columns) self.now) place []) < 2 ^ 32 }
+        ensures few { result + length (get_or (map (λ s. s.columns) self.now) place []) < 2 ^ 64 }
     {
-        self.layout.begins[place] as u32
+        self.layout.begins[place]
     }
 
     /// The number of columns of all sources. Takes no memory.
-    pub fn width(&self) -> u32
+    pub fn width(&self) -> usize
         ensures { result ≡ length (columns_in self.now) }
     {
-        self.layout.kinds.len() as u32
+        self.layout.kinds.len()
     }
 
     /// The places of the sources with this name, in order. Takes no memory.
@@ -165,7 +165,7 @@ impl<'a> Scope<'a> {
 
     /// The number of the column that the reference means among the columns of so many sources: the first that it finds, and
     /// 0 if it finds none. Takes no memory.
-    pub fn number_of(&self, sources: usize, r: &ColRef) -> u32
+    pub fn number_of(&self, sources: usize, r: &ColRef) -> usize
         ensures { result ≡ number_of (take sources self.now) r.now }
     {
         self.sight(sources, r).first
