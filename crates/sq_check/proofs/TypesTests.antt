@@ -1,6 +1,7 @@
 -- What the tests of types and of bounds say of a block.
-use Rattle.std.proofs.Common.{◌≡◌, ◌<◌, ℕ, suc, ◌+◌, ◌^◌, Bool, true, false, not, ◌||◌, List, [], ◌∷◌, ◌++◌, map, length, get_or, take, refl, ap, sym, ◌∙◌, append_assoc, arith}
-use Rattle.std.specs.Prelude.{nat_le, option_to_list, IsTrue, ◌↔◌}
+use Rattle.std.proofs.Common.{◌≡◌, ◌<◌, ℕ, suc, ◌+◌, ◌^◌, Bool, true, false, not, ◌||◌, List, [], ◌∷◌, ◌++◌, map, length, get_or, take, refl, ap, sym, subst, ◌∙◌, append_assoc, arith}
+use Rattle.std.specs.Prelude.{nat_le, option_to_list, Option, Some, None, is_none, slice_get, unwrap_or, IsTrue, ◌↔◌}
+use Rattle.std.specs.Option.{option_map}
 use Rattle.std.specs.List.{AllByRecursion, filter_map, list_any}
 use Rattle.std.proofs.lemmas.Bool.Decides.{nat_tests}
 use Rattle.std.proofs.lemmas.List.{take_more, length-take-le}
@@ -8,10 +9,14 @@ use Rattle.std.proofs.lemmas.List.Folds.{list_any-append}
 use Rattle.sq_ast.specs.declared.cond.CondTree.{CondTree}
 use Rattle.sq_ast.specs.declared.query.BlockTree.{BlockTree, out-BlockTree}
 use Rattle.sq_ast.specs.declared.query.JoinedTree.{JoinedTree, out-JoinedTree}
-use Rattle.sq_expr.specs.Bounds.{bound_of, cond_parts, IsBoundedCond}
+use Rattle.sq_expr.specs.Bounds.{bound_of, kind_bound, parts, cond_parts, IsBoundedCond}
+use Rattle.sq_expr.specs.Typing.{sort_of, sort_of_kind}
+use Rattle.sq_expr.proofs.Equations.{sort_of-Column, bound_of-Column, parts-Column}
+use Rattle.sq_expr.specs.declared.expr.Expr.TheVariants as expr
 use Rattle.sq_expr.specs.declared.cond.Cond.{Cond}
 use Rattle.sq_expr.specs.declared.expr.Expr.{Expr}
 use Rattle.sq_expr.specs.declared.expr.Kind.{Kind}
+use Rattle.sq_expr.specs.declared.expr.Kind.TheVariants.{Integer, Bigint, Text}
 use Rattle.sq_typed.specs.declared.query.BlockCall.{BlockCall}
 use Rattle.sq_typed.specs.Faults.{is_too_wide, sums_text, typed_exprs, typed_conds, has_mixed_types, has_wide_expr}
 use Rattle.sq_typed.specs.Numbered.{row_cond, replaced_cond}
@@ -61,6 +66,28 @@ module _ (kinds : List Kind) where
   pub tested : (r : Bool) (c : Cond) → (IsTrue r ↔ IsBoundedCond kinds c) → not r ≡ list_any (is_too_wide kinds) (cond_parts c)
   tested true c h = bounded (cond_parts c) (h.0 refl)
   tested false c h = unbounded (cond_parts c) (λ all. absurd (cc (h.1 all)))
+
+-- ---- columns
+
+no_sort : (k : Option Kind) → is_none (option_map sort_of_kind k) ≡ is_none k
+no_sort None = refl
+no_sort (Some k) = refl
+
+pub column_sort : (kinds : List Kind) (n : ℕ) → is_none (sort_of kinds (expr.Column n)) ≡ is_none (slice_get kinds n)
+column_sort kinds n = ap is_none (sort_of-Column kinds n) ∙ no_sort (slice_get kinds n)
+
+small : (k : Option Kind) → unwrap_or (option_map kind_bound k) 0 < 2 ^ 127
+small None = omega arith
+small (Some Integer) = omega arith
+small (Some Bigint) = omega arith
+small (Some Text) = omega arith
+
+pub column_bound : (kinds : List Kind) (n : ℕ) → list_any (is_too_wide kinds) (parts (expr.Column n)) ≡ false
+column_bound kinds n =
+    ap (list_any (is_too_wide kinds)) (parts-Column n)
+    ∙ all_small kinds (expr.Column n ∷ []) (subst (λ b. b < 2 ^ 127) (sym (bound_of-Column kinds n)) (small (slice_get kinds n)), tt)
+
+pub ruleset column_forms = (column_sort, column_bound)
 
 -- ---- conditions of ON
 

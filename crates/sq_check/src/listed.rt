@@ -2,14 +2,15 @@
 ghost use Rattle.std.specs.Prelude.{◌≡◌, ◌++◌, [], IfOk, OnOk, map, unwrap_or};
 ghost use Rattle.sq_ast.specs.declared.expr.ExprTree.{out-ExprTree};
 ghost use Rattle.sq_typed.specs.Selected.{Written, item_name, plain_name, written_out};
-ghost use Rattle.sq_check.specs.TypesFrames.{frame_column, frame_item};
+ghost use Rattle.sq_typed.specs.Numbered.{kind_of};
+ghost use Rattle.sq_check.specs.TypesFrames.{frame_column, frame_item, frame_kinds};
 ghost use Rattle.sq_scope.specs.TypesItems.{chosen_of};
 
 use crate::frame::Frame;
 use sq_ast::{ExprTree, ItemTree};
 use sq_catalog::Column;
-use sq_expr::Expr;
-use sq_scope::{ListItem, Scope, chosen, column_number, kind_of};
+use sq_expr::{Expr, Kind};
+use sq_scope::{ListItem, Scope, chosen, column_number, kind_at, kind_of};
 use sq_value::{NoMemory, Str};
 use sqlite_items::Items;
 use std::alloc::Global;
@@ -31,13 +32,27 @@ impl<'a> Frame<'a> {
     pub(crate) fn item_column(&self, alloc: Global, item: &ListItem) -> Result<Column, NoMemory>
         ensures { IfOk result (λ c. c ≡ frame_column self.now (chosen_of item.now)) }
     {
-        let expr = self.item_expr(alloc, item)?;
+        let kind = self.item_kind(alloc, item)?;
         let name = name_of(alloc, item)?;
         Ok(Column {
             name,
-            kind: kind_of(self.kinds(), &expr),
+            kind,
             nullable: true,
         })
+    }
+
+    // The kind of what an item gives.
+    #[tactic(auto, using(sq_scope::proofs::TypesTrees::kind_forms))]
+    fn item_kind(&self, alloc: Global, item: &ListItem) -> Result<Kind, NoMemory>
+        ensures { IfOk result (λ k. k ≡ kind_of (frame_kinds self.now) (frame_item self.now (chosen_of item.now))) }
+    {
+        match item {
+            ListItem::Starred { number, .. } => Ok(kind_at(self.kinds(), self.place_of(*number))),
+            ListItem::Written { expr, .. } => {
+                let expr = self.expr(alloc, expr)?;
+                Ok(kind_of(self.kinds(), &expr))
+            }
+        }
     }
 }
 

@@ -1,7 +1,8 @@
 //! The tests of types and of bounds that the expressions and conditions of a block have to pass.
-ghost use Rattle.std.specs.Prelude.{◌≡◌, IfOk, map, option_to_list};
+ghost use Rattle.std.specs.Prelude.{◌≡◌, IfOk, is_none, map, option_to_list, slice_get};
 ghost use Rattle.std.specs.List.{list_any};
 ghost use Rattle.sq_expr.specs.Typing.{is_numeric};
+ghost use Rattle.sq_expr.specs.declared.expr.Expr.TheVariants.{Column};
 ghost use Rattle.sq_typed.specs.Faults.{has_mixed_types, has_wide_expr, sums_text};
 ghost use Rattle.sq_typed.specs.Resolved.{on_cond};
 ghost use Rattle.sq_typed.specs.Selected.{written_out};
@@ -118,10 +119,44 @@ fn any_listed_fails(
 {
     let mut found = false;
     for item in items {
-        let expr = frame.item_expr(alloc, item)?;
-        found |= fails(test, frame.kinds(), &expr);
+        let fails = listed_fails(alloc, test, frame, item)?;
+        found |= fails;
     }
     Ok(found)
+}
+
+fn listed_fails(alloc: Global, test: Test, frame: &Frame, item: &ListItem) -> Result<bool, NoMemory>
+    ensures { IfOk result (λ found. found ≡ item_fails test frame.now (chosen_of item.now)) }
+{
+    match item {
+        ListItem::Starred { number, .. } => {
+            Ok(column_fails(test, frame.kinds(), frame.place_of(*number)))
+        }
+        ListItem::Written { expr, .. } => {
+            let expr = frame.expr(alloc, expr)?;
+            Ok(fails(test, frame.kinds(), &expr))
+        }
+    }
+}
+
+// Whether the column with this number fails the test: if it is not there, it has no type. No column is too wide.
+#[tactic(auto, using(crate::proofs::TypesTests::column_forms))]
+fn column_fails(test: Test, kinds: &[Kind], number: usize) -> bool
+    ensures { result ≡ fails test kinds.now (Column number) }
+{
+    match test {
+        Test::Types => is_missing(kinds, number),
+        Test::Bounds => false,
+    }
+}
+
+fn is_missing(kinds: &[Kind], number: usize) -> bool
+    ensures { result ≡ is_none (slice_get kinds.now number) }
+{
+    match kinds.get(number) {
+        Some(_) => false,
+        None => true,
+    }
 }
 
 fn any_call_fails(test: Test, kinds: &[Kind], calls: &[BlockCall]) -> bool

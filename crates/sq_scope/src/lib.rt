@@ -18,7 +18,7 @@ mod stars;
 
 pub use calls::{push_cond_calls, push_list_calls};
 pub use found_columns::Found;
-pub use grouped::{Groups, group_cond, group_expr, group_kinds, kind_of};
+pub use grouped::{Groups, group_cond, group_expr, group_kinds, kind_at, kind_of};
 pub use keys::Keys;
 pub use list_items::{ListItem, chosen};
 pub use names::names_fault;
