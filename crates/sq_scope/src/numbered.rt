@@ -1,5 +1,5 @@
 //! Expressions and conditions over the columns in scope, with numbers in the place of names.
-ghost use Rattle.std.specs.Prelude.{◌≡◌, IfOk, map, option_map};
+ghost use Rattle.std.specs.Prelude.{◌≡◌, ◌≤◌, ◌^◌, IfOk, OnErr, map, option_map};
 ghost use Rattle.sq_typed.specs.Numbered.{cmp_of, func_of, row_cond, row_expr, typed_call};
 ghost use Rattle.sq_scope.specs.TypesNumbered.{row_term};
 
@@ -104,9 +104,11 @@ fn row_conds(alloc: Global, row: &Row, conds: &[CondTree]) -> Result<Items<Cond>
     Ok(typed)
 }
 
-/// The number as that of a column in an expression. Such numbers have 32 bits: the answer is `NoMemory` for 2^32 and more.
+/// The number as that of a column in an expression. Such numbers have 32 bits: the answer is `NoMemory` for 2^32 and more, and
+/// for no other.
 pub fn column_number(number: usize) -> Result<u32, NoMemory>
-    ensures { IfOk result (λ column. column ≡ number) }
+    ensures number { IfOk result (λ column. column ≡ number) }
+    ensures large { OnErr result (2 ^ 32 ≤ number) }
 {
     match u32::try_from(number) {
         Ok(number) => Ok(number),
