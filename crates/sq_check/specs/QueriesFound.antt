@@ -1,6 +1,6 @@
 -- What is noted of the blocks and set operations of a query while it is gone through.
 --     Adds before after p        what was noted before, and what stands in p.       Gives wanted r s        s is so much of what r gives
-use Rattle.std.specs.Prelude.{◌≡◌, ◌≢◌, ◌≤◌, ◌==◌, ⊤, Bool, false, not, ◌||◌, List, [], ◌∷◌, length, map, take, Option, Some, None}
+use Rattle.std.specs.Prelude.{◌≡◌, ◌≢◌, ◌≤◌, ◌==◌, ⊤, Bool, true, false, not, ◌||◌, List, [], ◌∷◌, ◌++◌, length, map, take, Option, Some, None}
 use Rattle.std.specs.List.{list_any}
 use Rattle.sq_catalog.specs.declared.relation.Column.{Column}
 use Rattle.sq_expr.specs.Typing.{are_alike, sort_of_kind}
@@ -13,6 +13,8 @@ use Rattle.sq_typed.specs.declared.check_kind.CheckKind.{CheckKind}
 use Rattle.sq_typed.specs.declared.check_kind.CheckKind.TheVariants.{UnknownColumn, AmbiguousColumn, NestedAggregate, NotGrouped, ColumnCount, TypeMismatch, TooWide, Limit}
 use Rattle.sq_check.specs.declared.findings.Findings.{Findings}
 use Rattle.sq_check.specs.declared.resolve.Shape.{Shape}
+use Rattle.sq_check.specs.declared.resolve.Stop.{Stop}
+use Rattle.sq_check.specs.declared.resolve.Stop.TheVariants.{Repeated}
 use Rattle.sq_check.specs.declared.resolve.Wanted.{Wanted}
 use Rattle.sq_check.specs.declared.resolve.Wanted.TheVariants.{Distinct, Front}
 
@@ -114,6 +116,19 @@ with_operand f before other = record {
 abbrev pub SoFar : Wanted → List Resolved → Findings → Findings → Option Shape → Type 0
 SoFar wanted ms before after None = (ms ≡ []) × (after ≡ before)
 SoFar wanted ms before after (Some s) = (ms ≢ []) × GivesAll wanted ms before after s
+
+-- the next operand, behind those so far
+abbrev pub GivesNext : Wanted → Option Shape → Resolved → Findings → Findings → Shape → Type 0
+GivesNext wanted found r before after s = (ms : List Resolved) (start : Findings) → SoFar wanted ms start before found → GivesAll wanted (ms ++ r ∷ []) start after s
+
+-- a further operand, behind one or more that give a shape
+abbrev pub GivesFurther : Shape → Resolved → Findings → Findings → Shape → Type 0
+GivesFurther shape r before after s = (wanted : Wanted) (first : Resolved) (rest : List Resolved) (start : Findings) →
+    GivesAll wanted (first ∷ rest) start before shape → GivesAll wanted (first ∷ (rest ++ r ∷ [])) start after s
+
+-- a stop is for a name that repeats only if one does
+abbrev pub OnRepeated : Bool → Stop → Type 0
+OnRepeated repeats stop = stop ≡ Repeated → repeats ≡ true
 
 -- whether two columns of the next operand have the same name where none may
 abbrev pub operand_repeats : Wanted → Option Shape → Resolved → Bool

@@ -1,11 +1,11 @@
 //! How many columns a block gives, and which.
-ghost use Rattle.std.specs.Prelude.{◌≡◌, ◌<◌, ◌≤◌, ◌^◌, ◌++◌, ◌∷◌, [], bytes_eq, if◌then◌else◌, IfOk, MatchOption, OnOk, false, length, map, nat_lt, take, true};
+ghost use Rattle.std.specs.Prelude.{◌≡◌, ◌<◌, ◌≤◌, ◌^◌, ◌++◌, ◌∷◌, [], bytes_eq, if◌then◌else◌, IfOk, OnOk, length, map, nat_lt, take};
 ghost use Rattle.std.specs.List.{flat_map};
 ghost use Rattle.sq_typed.specs.Faults.{has_long_list, names};
 ghost use Rattle.sq_typed.specs.Scopes.{columns_in, repeats};
 ghost use Rattle.sq_typed.specs.Selected.{block_columns, chosen, starred, written_out};
 ghost use Rattle.sq_scope.specs.Scoped.{scoped_by};
-ghost use Rattle.sq_check.specs.TypesColumns.{up_to};
+ghost use Rattle.sq_check.specs.TypesColumns.{GivesDistinct, up_to};
 ghost use Rattle.sq_check.specs.TypesFrames.{frame_column};
 ghost use Rattle.sq_scope.specs.TypesItems.{chosen_of, starred_at};
 
@@ -168,8 +168,7 @@ pub fn distinct_columns(
     scope: &Scope,
     block: &BlockTree,
 ) -> Result<Option<Items<Column>>, NoMemory>
-    ensures { IfOk result (λ found. MatchOption found (repeats (names (block_columns (scoped_by scope.now block.now))) ≡ true) (λ columns. (columns ≡ block_columns
-        (scoped_by scope.now block.now)) × (repeats (names columns) ≡ false))) }
+    ensures { IfOk result (GivesDistinct (block_columns (scoped_by scope.now block.now))) }
 {
     let frame = Frame::of(alloc, scope, block)?;
     let found = distinct_listed(alloc, &frame, scope, block.items.as_slice())?;
@@ -182,8 +181,7 @@ fn distinct_listed(
     scope: &Scope,
     items: &[ItemTree],
 ) -> Result<Option<Items<Column>>, NoMemory>
-    ensures { IfOk result (λ found. MatchOption found (repeats (names (map (frame_column frame.now) (flat_map (written_out scope.now) items.now))) ≡ true) (λ columns. (columns ≡ map
-        (frame_column frame.now) (flat_map (written_out scope.now) items.now)) × (repeats (names columns) ≡ false))) }
+    ensures { IfOk result (GivesDistinct (map (frame_column frame.now) (flat_map (written_out scope.now) items.now))) }
 {
     let mut columns = Items::new(alloc);
     let mut checked = 0;

@@ -1,14 +1,12 @@
 //! What a query over the relations before it gives, and the faults of its blocks and set operations.
-ghost use Rattle.std.specs.Prelude.{◌≡◌, true, List, [], ◌∷◌, ◌++◌, map, IfOk, MatchResult};
+ghost use Rattle.std.specs.Prelude.{◌≡◌, [], map, IfOk, MatchResult};
 ghost use Rattle.std.specs.List.{list_any};
 ghost use Rattle.sq_ast.specs.declared.query.QueryTree.TheVariants as tree;
-ghost use Rattle.sq_typed.specs.Resolved.{Resolved as ResolvedQuery, resolved};
+ghost use Rattle.sq_typed.specs.Resolved.{resolved};
 ghost use Rattle.sq_typed.proofs.QueryEquations.{resolved_joined, resolved_source};
-ghost use Rattle.sq_check.specs.QueriesFound.{Gives, GivesAll, GivesBlock, GivesScope, GivesSource, SoFar, block_repeats, has_same_columns, joined_repeats, operand_repeats, repeats_in, source_repeats};
+ghost use Rattle.sq_check.specs.QueriesFound.{Gives, GivesBlock, GivesFurther, GivesNext, GivesScope, GivesSource, OnRepeated, block_repeats, has_same_columns, joined_repeats, operand_repeats, repeats_in, source_repeats};
 ghost use Rattle.sq_scope.specs.Scoped.{scoped_by};
-ghost use Rattle.sq_check.specs.declared.findings.Findings.{Findings as Found};
 ghost use Rattle.sq_check.specs.declared.resolve.Stop.TheVariants.{Memory, Repeated};
-ghost use Rattle.sq_check.specs.declared.resolve.Wanted.{Wanted as Asked};
 ghost use Rattle.sq_check.specs.declared.resolve.Wanted.TheVariants.{Distinct, Front};
 
 use crate::columns::{chosen_count, distinct_columns, first_columns};
@@ -83,7 +81,7 @@ pub(crate) fn resolve(
     wanted: Wanted,
     findings: &mut Findings,
 ) -> Result<Shape, Stop>
-    ensures { MatchResult result (λ shape. Gives wanted (resolved catalog.now query.now) findings.old findings.new shape) (λ stop. stop ≡ Repeated → repeats_in wanted (resolved catalog.now query.now) ≡ true) }
+    ensures { MatchResult result (λ shape. Gives wanted (resolved catalog.now query.now) findings.old findings.new shape) (OnRepeated (repeats_in wanted (resolved catalog.now query.now))) }
 {
     match query {
         QueryTree::Block(block) => resolve_block(alloc, catalog, block.get(), wanted, findings),
@@ -114,8 +112,8 @@ fn resolve_member(
     before: Option<Shape>,
     findings: &mut Findings,
 ) -> Result<Shape, Stop>
-    ensures { MatchResult result (λ shape. (members : List ResolvedQuery) (start : Found) → SoFar wanted members start findings.old before →
-        GivesAll wanted (members ++ resolved catalog.now query.now ∷ []) start findings.new shape) (λ stop. stop ≡ Repeated → operand_repeats wanted before (resolved catalog.now query.now) ≡ true) }
+    ensures { MatchResult result (GivesNext wanted before (resolved catalog.now query.now) findings.old findings.new)
+        (OnRepeated (operand_repeats wanted before (resolved catalog.now query.now))) }
 {
     match before {
         None => resolve(alloc, catalog, query, wanted, findings),
@@ -132,9 +130,8 @@ fn resolve_further(
     before: Shape,
     findings: &mut Findings,
 ) -> Result<Shape, Stop>
-    ensures { MatchResult result (λ shape. (wanted : Asked) (first : ResolvedQuery) (rest : List ResolvedQuery) (start : Found) →
-        GivesAll wanted (first ∷ rest) start findings.old before → GivesAll wanted (first ∷ (rest ++ resolved catalog.now query.now ∷ [])) start findings.new shape)
-        (λ stop. stop ≡ Repeated → list_any has_same_columns (resolved catalog.now query.now).parts.heads ≡ true) }
+    ensures { MatchResult result (GivesFurther before (resolved catalog.now query.now) findings.old findings.new)
+        (OnRepeated (list_any has_same_columns (resolved catalog.now query.now).parts.heads)) }
 {
     let front = Wanted::Front(before.columns.len());
     let other = resolve(alloc, catalog, query, front, findings)?;
@@ -153,7 +150,7 @@ fn resolve_block(
     findings: &mut Findings,
 ) -> Result<Shape, Stop>
     ensures { MatchResult result (λ shape. Gives wanted (resolved catalog.now (tree.Block block.now)) findings.old findings.new shape)
-        (λ stop. stop ≡ Repeated → repeats_in wanted (resolved catalog.now (tree.Block block.now)) ≡ true) }
+        (OnRepeated (repeats_in wanted (resolved catalog.now (tree.Block block.now)))) }
 {
     let scope = resolve_sources(alloc, catalog, &block.sources, findings)?;
     findings.note_block(alloc, &scope, block)?;
@@ -169,7 +166,7 @@ fn resolve_sources<'a>(
     findings: &mut Findings,
 ) -> Result<Scope<'a>, Stop>
     ensures { MatchResult result (λ scope. GivesScope (map (resolved_joined catalog.now) sources.now) findings.old findings.new scope)
-        (λ stop. stop ≡ Repeated → list_any joined_repeats (map (resolved_joined catalog.now) sources.now) ≡ true) }
+        (OnRepeated (list_any joined_repeats (map (resolved_joined catalog.now) sources.now))) }
 {
     let mut found = Vec::new(alloc);
     for joined in sources.as_slice() {
@@ -186,7 +183,7 @@ fn resolve_source<'a>(
     source: &'a SourceTree,
     findings: &mut Findings,
 ) -> Result<Source<'a>, Stop>
-    ensures { MatchResult result (λ found. GivesSource (resolved_source catalog.now source.now) findings.old findings.new found) (λ stop. stop ≡ Repeated → source_repeats (resolved_source catalog.now source.now) ≡ true) }
+    ensures { MatchResult result (λ found. GivesSource (resolved_source catalog.now source.now) findings.old findings.new found) (OnRepeated (source_repeats (resolved_source catalog.now source.now))) }
 {
     match source {
         SourceTree::Relation { name, alias } => {
@@ -207,7 +204,7 @@ fn block_shape(
     block: &BlockTree,
     wanted: Wanted,
 ) -> Result<Shape, Stop>
-    ensures { MatchResult result (λ shape. GivesBlock wanted (scoped_by scope.now block.now) shape) (λ stop. stop ≡ Repeated → block_repeats wanted (scoped_by scope.now block.now) ≡ true) }
+    ensures { MatchResult result (λ shape. GivesBlock wanted (scoped_by scope.now block.now) shape) (OnRepeated (block_repeats wanted (scoped_by scope.now block.now))) }
 {
     match wanted {
         Wanted::Distinct => distinct_shape(alloc, scope, block),
@@ -216,7 +213,7 @@ fn block_shape(
 }
 
 fn distinct_shape(alloc: Global, scope: &Scope, block: &BlockTree) -> Result<Shape, Stop>
-    ensures { MatchResult result (λ shape. GivesBlock Distinct (scoped_by scope.now block.now) shape) (λ stop. stop ≡ Repeated → block_repeats Distinct (scoped_by scope.now block.now) ≡ true) }
+    ensures { MatchResult result (λ shape. GivesBlock Distinct (scoped_by scope.now block.now) shape) (OnRepeated (block_repeats Distinct (scoped_by scope.now block.now))) }
 {
     let Some(columns) = distinct_columns(alloc, scope, block)? else {
         return Err(Stop::Repeated);

@@ -44,7 +44,7 @@ pub fn top<R: Threads + Sync, S: Source, K: Sink, E: Sink, G: Gate>(
 ///
 /// An input of more than `limit` bytes is `TooLong`: then exactly `limit` + 1 bytes were read, and never more. If the status
 /// tells of a fault, its one line goes to `err`. If a write to `err` fails, that fault is passed over, and `err` holds a
-/// prefix of the line. `NoMemory` comes only from a refused allocation. The gate is not called yet.
+/// prefix of the line. `NoMemory` says that memory ran out. The gate is not called yet.
 pub fn serve<R: Threads + Sync, S: Source, K: Sink, E: Sink, G: Gate>(
     rt: &R,
     alloc: Global,
