@@ -188,12 +188,15 @@ module _ (relations : List Contents) (good : AllByRecursion (λ c. AreOfWidth c.
   pub query_is_wide : (q : Query) (w : ℕ) → columns_given ws q ≡ Some w → Wide w (answer relations q)
   query_is_wide = each_query OriginWide QueryWide wide_cases
 
+  pub origin_is_wide : (o : Origin) (w : ℕ) → columns_of_origin ws o ≡ Some w → Wide w (origin_answer relations o)
+  origin_is_wide = each_origin OriginWide QueryWide wide_cases
+
   pub sources_have_widths : (b : Block) (w : ℕ) → columns_given ws (query.Block b) ≡ Some w → AllByRecursion (λ s. HasItsWidth s.answer) (map (source_of_item relations) (out-Block b).sources)
   sources_have_widths b w e =
       let both = chosen (list_all is_some (map (λ s. columns_of_origin ws s.source) (out-Block b).sources)) (length (out-Block b).items) w (sym (columns-Block ws b) ∙ e) in
       all_over (λ s. HasItsWidth s.answer) (source_of_item relations) (out-Block b).sources
       (all_weaker (λ s. There (columns_of_origin ws s.source)) (λ s. HasItsWidth (source_of_item relations s).answer) (out-Block b).sources
-      (λ s t. subst (λ x. HasItsWidth x.answer) (sym (source-is relations s)) (its_width t.number (origin_answer relations s.source) (each_origin OriginWide QueryWide wide_cases s.source t.number t.is)))
+      (λ s t. subst (λ x. HasItsWidth x.answer) (sym (source-is relations s)) (its_width t.number (origin_answer relations s.source) (origin_is_wide s.source t.number t.is)))
       (all_there (λ s. columns_of_origin ws s.source) (out-Block b).sources both.0))
 
 -- ---- the pairs of a left join

@@ -29,7 +29,7 @@ use Rattle.sq_typed.proofs.FitEquations.{kinded_source-is, kinded-Relation, kind
 use Rattle.sq_typed.proofs.FitQueries.{rows_of_query, operands_fit, length_widest, pairwise_mapped}
 use Rattle.sq_typed.proofs.FitRows.{length_mapped}
 use Rattle.sq_typed.proofs.Tests.{and_left, and_right}
-use Rattle.sq_typed.proofs.Trees.{QueryCases, each_query}
+use Rattle.sq_typed.proofs.Trees.{QueryCases, each_query, each_origin}
 
 -- ---- no view is out of range
 
@@ -204,13 +204,16 @@ module _ (kss : List (List Kind)) where
   pub columns_counted : (q : Query) → Fits kss q → columns_given (map length kss) q ≡ Some (length (kinds_given kss q))
   columns_counted = each_query OriginCounted QueryCounted counted_cases
 
+  pub origin_columns_counted : (o : Origin) → (kinded_origin kss o).fits ≡ true → columns_of_origin (map length kss) o ≡ Some (length (kinded_origin kss o).kinds)
+  origin_columns_counted = each_origin OriginCounted QueryCounted counted_cases
+
 -- ---- programs
 
-lengths_more : (kss : List (List Kind)) (ks : List Kind) (w : ℕ) → length ks ≡ w → map length (kss ++ ks ∷ []) ≡ map length kss ++ w ∷ []
+pub lengths_more : (kss : List (List Kind)) (ks : List Kind) (w : ℕ) → length ks ≡ w → map length (kss ++ ks ∷ []) ≡ map length kss ++ w ∷ []
 lengths_more [] ks w e = (λ i. e i ∷ [])
 lengths_more (k ∷ kss) ks w e = ap (λ ws. length k ∷ ws) (lengths_more kss ks w e)
 
-first_columns : (kss : List (List Kind)) (r : Relation) (queries : List Query) → FirstFits kss (kinds_of r) queries → FirstGives (map length kss) (length r.columns) queries
+pub first_columns : (kss : List (List Kind)) (r : Relation) (queries : List Query) → FirstFits kss (kinds_of r) queries → FirstGives (map length kss) (length r.columns) queries
 first_columns kss r [] f = absurd f
 first_columns kss r (q ∷ queries) f = columns_counted kss q f.0 ∙ ap Some (ap length f.1 ∙ length_mapped (λ c. c.kind) r.columns)
 

@@ -118,7 +118,7 @@ all_widths [] (k ∷ ks) p = absurd p
 all_widths (s ∷ ss) [] p = absurd p
 all_widths (s ∷ ss) (k ∷ ks) p = omega (arith, p.0.0, all_widths ss ks p.1, length-append k.kinded.kinds (joined_kinds ks))
 
-members_fit : (kinds : List Kind) (where_ : Option Cond) → may_suit kinds where_ ≡ true → AllByRecursion (λ c. width_of (cond_columns c) ≤ length kinds) (members_of where_)
+pub members_fit : (kinds : List Kind) (where_ : Option Cond) → may_suit kinds where_ ≡ true → AllByRecursion (λ c. width_of (cond_columns c) ≤ length kinds) (members_of where_)
 members_fit kinds None e = tt
 members_fit kinds (Some c) e = members_narrower c (length kinds) (cond_names_in_range kinds c (and_left (is_typed_cond kinds c) (are_small kinds (cond_parts c)) e))
 

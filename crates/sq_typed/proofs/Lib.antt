@@ -27,3 +27,4 @@ pub mod FitExampleLemmas
 pub mod CheckedFits
 pub mod Latest
 pub mod Members
+pub mod WithinLemmas

@@ -15,16 +15,16 @@ use Rattle.sq_typed.specs.Laws.{AreOfWidth, HasItsWidth, by_kind, FirstGives, Qu
 use Rattle.sq_typed.proofs.ColumnLemmas.{query_is_wide}
 
 -- relations before some point with so many columns each, whose rows have their width, and so the views among them
-record Good (widths : List ℕ) (s : Standing) : Type 0 where
-  are : map (λ c. c.width) s.contents ≡ widths
-  contents : AllByRecursion (λ c. AreOfWidth c.width c.rows) s.contents
-  given : AllByRecursion HasItsWidth s.given
+pub record Good (widths : List ℕ) (s : Standing) : Type 0 where
+  pub are : map (λ c. c.width) s.contents ≡ widths
+  pub contents : AllByRecursion (λ c. AreOfWidth c.width c.rows) s.contents
+  pub given : AllByRecursion HasItsWidth s.given
 
 widths_more : (cs : List Contents) (c : Contents) (widths : List ℕ) (w : ℕ) → map (λ c. c.width) cs ≡ widths → c.width ≡ w → map (λ c. c.width) (cs ++ c ∷ []) ≡ widths ++ w ∷ []
 widths_more [] c widths w is ew = (λ i. ew i ∷ []) ∙ ap (λ ws. ws ++ w ∷ []) is
 widths_more (d ∷ cs) c widths w is ew = ap (λ ws. d.width ∷ ws) (widths_more cs c (map (λ c. c.width) cs) w refl ew) ∙ ap (λ ws. ws ++ w ∷ []) is
 
-good_table : (widths : List ℕ) (s : Standing) (w : ℕ) → Good widths s → AreOfWidth w (first_rows s.tables) → Good (widths ++ w ∷ []) (with_table w s)
+pub good_table : (widths : List ℕ) (s : Standing) (w : ℕ) → Good widths s → AreOfWidth w (first_rows s.tables) → Good (widths ++ w ∷ []) (with_table w s)
 good_table widths s w g h = record {
   are = widths_more s.contents (record { width = w; rows = first_rows s.tables }) widths w g.are refl;
   contents = all_append (λ c. AreOfWidth c.width c.rows) s.contents (record { width = w; rows = first_rows s.tables } ∷ []) g.contents (h, tt);
@@ -36,7 +36,7 @@ first_is_wide : (widths : List ℕ) (contents : List Contents) → map (λ c. c.
 first_is_wide widths contents is good w [] h = absurd h
 first_is_wide widths contents is good w (q ∷ queries) h = query_is_wide contents good q w (subst (λ ws. columns_given ws q ≡ Some w) (sym is) h)
 
-good_view : (widths : List ℕ) (s : Standing) (w : ℕ) → Good widths s → FirstGives widths w s.queries → Good (widths ++ w ∷ []) (with_view (first_answer s.contents s.queries) s)
+pub good_view : (widths : List ℕ) (s : Standing) (w : ℕ) → Good widths s → FirstGives widths w s.queries → Good (widths ++ w ∷ []) (with_view (first_answer s.contents s.queries) s)
 good_view widths s w g h =
     let a : Answer = first_answer s.contents s.queries in
     let wide = first_is_wide widths s.contents g.are g.contents w s.queries h in

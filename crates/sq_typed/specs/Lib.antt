@@ -19,4 +19,5 @@ pub mod ProgramExamples
 pub mod Fit
 pub mod Written
 pub mod Checked
+pub mod Within
 pub mod FitExamples

@@ -1,6 +1,6 @@
 //! What holds of queries and programs that fit, each as the contract of a function that does nothing.
-ghost use Rattle.std.specs.Prelude.{◌≡◌, ◌≤◌, ◌↔◌, ◌^◌, false, true, List, [], None as Nothing, Some, flat_map, length, map, option_to_list};
-ghost use Rattle.std.specs.List.{AllByRecursion};
+ghost use Rattle.std.specs.Prelude.{◌≡◌, ◌≤◌, ◌↔◌, ◌^◌, Bool, false, true, Option, List, [], None as Nothing, Some, flat_map, length, map, option_to_list};
+ghost use Rattle.std.specs.List.{AllByRecursion, list_any};
 ghost use Rattle.sq_token.specs.declared.token.Token.{Token as SpelledToken};
 ghost use Rattle.sq_ast.specs.Spelling.{Spells};
 ghost use Rattle.sq_ast.specs.declared.statement.Statement.{Statement as StatementTree};
@@ -12,20 +12,21 @@ ghost use Rattle.sq_typed.specs.declared.query.Query.{Query as Selection};
 ghost use Rattle.sq_expr.specs.Fits.{Suits, SuitsCond};
 ghost use Rattle.sq_typed.specs.declared.query.Block.{Block as Selected, out-Block};
 ghost use Rattle.sq_typed.specs.declared.query.Query.TheVariants as query;
-ghost use Rattle.sq_typed.specs.Blocks.{item_rows, selected};
+ghost use Rattle.sq_typed.specs.Blocks.{block_answer, item_rows, selected};
 ghost use Rattle.sq_typed.specs.Checked.{IsChecked};
 ghost use Rattle.sq_typed.specs.Faults.{refused};
 ghost use Rattle.sq_typed.specs.Fit.{AreAllOfKinds, ArgumentSuits, CallsAreInRange, Fits, GivesItsKinds, HoldsKinds, IsGroupedBy, ItemsAreInRange, Pairwise, ProgramFits, SourceGivesKinds, ViewsAreOfKinds};
 ghost use Rattle.sq_typed.specs.Fit.{group_kinds, grouped_kinds, item_row_kinds, kinded_source, kinds_given, source_kinds, sources_fit, suits, suits_cond};
 ghost use Rattle.sq_typed.specs.FitExamples as examples;
-ghost use Rattle.sq_typed.specs.From.{Row, Source, from, kept};
-ghost use Rattle.sq_typed.specs.Laws.{QueriesFit};
+ghost use Rattle.sq_typed.specs.From.{Row, Source, from, kept, stages};
+ghost use Rattle.sq_typed.specs.Laws.{QueriesFit, TablesFit};
 ghost use Rattle.sq_typed.specs.Numbered.{kind_of};
 ghost use Rattle.sq_typed.specs.Programs.{program_of};
-ghost use Rattle.sq_typed.specs.Queries.{Contents, answer, has_range_fault};
+ghost use Rattle.sq_typed.specs.Queries.{Contents, answer, has_range_fault, is_crowded};
 ghost use Rattle.sq_typed.specs.Relations.{columns_given};
 ghost use Rattle.sq_typed.specs.Tables.{Tables};
 ghost use Rattle.sq_typed.specs.Views.{Meant};
+ghost use Rattle.sq_typed.specs.Within.{AreAsWide, BlockOf, IsViewOver, KeepsAllEarly, left_pairs, with_pairs};
 ghost use Rattle.sq_typed.specs.Written.{AllWritten};
 
 /// The tests of what fits are exact: an expression or a condition passes if it has a type and is computed in 128 bits. In
@@ -95,6 +96,30 @@ pub fn accepted_statements_fit()
 #[tactic(auto, using(crate::proofs::CheckedFits::checked_fits))]
 pub fn checked_programs_fit()
     ensures { (p : Meant) → IsChecked p → ProgramFits [] p.queries p.catalog }
+{}
+
+/// Each block of a query that fits fits, at any depth. Over relations whose rows have their width, the rows that its WHERE keeps are
+/// those that go on from its last source, if each member applies as soon as the sources whose columns it names are joined.
+#[tactic(auto, using(crate::proofs::WithinLemmas::blocks_fit, crate::proofs::WithinLemmas::blocks_keep_early))]
+pub fn blocks_of_queries_keep_early()
+    ensures fit { (kinds : List (List ColumnKind)) (q : Selection) (b : Selected) → BlockOf q b → Fits kinds q → Fits kinds (query.Block b) }
+    ensures early { (relations : List Contents) (kinds : List (List ColumnKind)) → AreAsWide relations kinds → (q : Selection) → Fits kinds q → KeepsAllEarly relations q }
+{}
+
+/// In each block of each view of an accepted program, over tables whose rows have their width, the rows that WHERE keeps are those
+/// that go on from the last source, if each member applies as soon as the sources whose columns it names are joined.
+pub fn accepted_programs_keep_early()
+    ensures { (p : Meant) (tables : Tables) → IsChecked p → TablesFit tables p.catalog →
+        (relations : List Contents) (q : Selection) → IsViewOver p tables relations q → KeepsAllEarly relations q }
+{}
+
+/// The pairs of a left join on which its ON is True are among its joined rows. So if they are counted as a place of their own, no
+/// more blocks are out of range: they exceed 2^61 rows only if the rows of some source do.
+#[tactic(auto, using(crate::proofs::WithinLemmas::pairs_are_crowded))]
+pub fn pairs_of_left_joins_change_no_verdict()
+    ensures crowded { (conds : List Condition) (sources : List Source) → list_any is_crowded (left_pairs conds sources) ≡ true → list_any is_crowded (map (λ s. s.0) (stages conds sources)) ≡ true }
+    ensures verdict { (d : Bool) (sources : List Source) (w : Option Condition) (g : Option Groups) (items : List Expression) →
+        has_range_fault (with_pairs d sources w g items) ≡ has_range_fault (block_answer d sources w g items) }
 {}
 
 /// Small queries that fit a table of an `INTEGER` and a text, or don't, as `specs/FitExamples.antt` writes them.
