@@ -4,3 +4,4 @@ pub mod Hash
 pub mod Count
 pub mod Truth
 pub mod KeyBytes
+pub mod Stored

@@ -1,4 +1,4 @@
-//! Rows: lists of values, with their order.
+//! Rows: lists of values, with their order. Short ones hold their values in place, and long ones can be shared.
 ghost use Rattle.std.specs.Prelude.{◌≡◌, ◌<◌, length, slice_get, Some, IfOk, refl};
 ghost use Rattle.std.specs.Cmp.{eq_by_cmp_equiv, partial_equiv_from_equiv, partial_order_from_agreeing_total};
 ghost use Rattle.std.specs.Hash as fed;
@@ -12,21 +12,35 @@ use std::alloc::Global;
 use std::cmp::Ordering;
 use std::hash::{Hash, Hasher};
 use std::marker::Model;
+use std::sync::Arc;
 
 /// A row of a table or a view. Contracts see it as the list of its values, and its order and
 /// equality go by these column by column, a proper prefix first.
+///
+/// One to three values stand in the row itself. More are in memory of their own, which `share` lets copies share.
 #[derive(Debug, Drop)]
 pub struct Row {
-    values: Vec<Value>,
+    store: Store,
+}
+
+/// Where the values of a row stand.
+#[derive(Debug, Drop)]
+enum Store {
+    One([Value; 1]),
+    Two([Value; 2]),
+    Three([Value; 3]),
+    Owned(Vec<Value>),
+    Shared(Arc<Vec<Value>, Global>),
 }
 
 impl Model for Row {
     ghost use Rattle.std.specs.Prelude.{List};
     ghost use Rattle.sq_value.specs.declared.value.Value.{Value as Datum};
+    ghost use Rattle.sq_value.specs.Stored.{stored};
 
     ghost Value = { List Datum };
 
-    ghost view = { λ r. r.values.items };
+    ghost view = { λ r. stored r.store };
 }
 
 impl Row {
@@ -34,14 +48,24 @@ impl Row {
     pub fn of(values: Vec<Value>) -> Row
         ensures { result ≡ values.items }
     {
-        Row { values }
+        let store = match <[Value; 1]>::try_from(values) {
+            Ok(one) => Store::One(one),
+            Err(values) => match <[Value; 2]>::try_from(values) {
+                Ok(two) => Store::Two(two),
+                Err(values) => match <[Value; 3]>::try_from(values) {
+                    Ok(three) => Store::Three(three),
+                    Err(values) => Store::Owned(values),
+                },
+            },
+        };
+        Row { store }
     }
 
     /// How many values the row has. Takes no memory.
     pub fn len(&self) -> usize
         ensures { result ≡ length self.now }
     {
-        self.values.len()
+        self.values().len()
     }
 
     /// The value at place `i`, counted from 0, lent. Takes no memory.
@@ -49,26 +73,68 @@ impl Row {
         requires { i < length self.now }
         ensures { slice_get self.now i ≡ Some result.now }
     {
-        &self.values[i]
+        &self.values()[i]
     }
 
     /// All values, in their order.
     pub(crate) fn values(&self) -> &[Value]
         ensures { result.now ≡ self.now }
     {
-        &self.values
+        match &self.store {
+            Store::One(one) => one,
+            Store::Two(two) => two,
+            Store::Three(three) => three,
+            Store::Owned(values) => values,
+            Store::Shared(values) => values,
+        }
     }
 
     /// A row of its own with the same values, or `NoMemory` if memory runs out.
+    ///
+    /// Values in place, and those of a shared row, take no memory, but for the 2^63rd row that shares them.
     pub fn clone_row(&self, alloc: Global) -> Result<Row, NoMemory>
         ensures equal { IfOk result (λ copy. copy ≡ self.now) }
     {
-        let mut values = Vec::with_capacity(alloc, self.values.len())?;
-        for value in &self.values {
-            values.push(value.clone_value(alloc)?)?;
-        }
-        Ok(Row { values })
+        let store = match &self.store {
+            Store::One([a]) => Store::One([a.clone_value(alloc)?]),
+            Store::Two([a, b]) => Store::Two([a.clone_value(alloc)?, b.clone_value(alloc)?]),
+            Store::Three([a, b, c]) => Store::Three([
+                a.clone_value(alloc)?,
+                b.clone_value(alloc)?,
+                c.clone_value(alloc)?,
+            ]),
+            Store::Owned(values) => Store::Owned(copy_values(alloc, values)?),
+            Store::Shared(values) => match Arc::try_clone(values) {
+                Ok(shared) => Store::Shared(shared),
+                // The count of the rows that share the values is full.
+                Err(_) => Store::Owned(copy_values(alloc, values)?),
+            },
+        };
+        Ok(Row { store })
     }
+
+    /// The same row, ready to be copied often: copies of it share its values, and take no memory for them.
+    ///
+    /// Rows of at most three values stay as they are. `NoMemory` if memory runs out, and the row is let go then.
+    pub fn share(self, alloc: Global) -> Result<Row, NoMemory>
+        ensures same { IfOk result (λ row. row ≡ self) }
+    {
+        let store = match self.store {
+            Store::Owned(values) => Store::Shared(Arc::new(alloc, values)?),
+            store => store,
+        };
+        Ok(Row { store })
+    }
+}
+
+fn copy_values(alloc: Global, values: &[Value]) -> Result<Vec<Value>, NoMemory>
+    ensures equal { IfOk result (λ copy. copy.items ≡ values.now) }
+{
+    let mut copy = Vec::with_capacity(alloc, values.len())?;
+    for value in values {
+        copy.push(value.clone_value(alloc)?)?;
+    }
+    Ok(copy)
 }
 
 impl PartialEq for Row {
@@ -78,7 +144,7 @@ impl PartialEq for Row {
 
     #[tactic(auto, using(crate::specs::OrderLaws::row_ties))]
     fn eq(&self, other: &Row) -> bool {
-        self.values == other.values
+        self.values() == other.values()
     }
 }
 
@@ -106,7 +172,7 @@ impl Ord for Row {
     ghost matches_eq = { λ _ _. refl };
 
     fn cmp(&self, other: &Row) -> Ordering {
-        self.values.cmp(&other.values)
+        self.values().cmp(other.values())
     }
 }
 
@@ -118,6 +184,6 @@ impl Hash for Row {
     ghost respects_eq = { λ r s e. ap (fed.slice value_writes) ((row_eq-same r s).0 e) };
 
     fn hash<H: Hasher>(&self, state: &mut H) {
-        self.values.hash(state);
+        self.values().hash(state);
     }
 }

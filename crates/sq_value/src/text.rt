@@ -1,4 +1,4 @@
-//! Texts in UTF-8, with their order.
+//! Texts in UTF-8, with their order. Copies of a text share its bytes.
 ghost use Rattle.std.specs.Prelude.{◌≡◌, IfOk, refl};
 ghost use Rattle.std.specs.Cmp.{eq_by_cmp_equiv, partial_equiv_from_equiv, partial_order_from_agreeing_total};
 ghost use Rattle.std.specs.Hash as fed;
@@ -12,21 +12,22 @@ use std::cmp::Ordering;
 use std::convert::AsStr;
 use std::hash::{Hash, Hasher};
 use std::marker::Model;
+use std::sync::ArcStr;
 
 /// A text in UTF-8, owned. Contracts see it as the list of its bytes, and its order and equality
-/// go by these bytes, a proper prefix first.
+/// go by these bytes, a proper prefix first. The bytes are in memory that its copies share.
 #[derive(Debug, Drop)]
 pub struct Str {
-    text: String,
+    text: ArcStr<Global>,
 }
 
 impl Model for Str {
     ghost use Rattle.std.specs.Prelude.{ℕ, List};
-    ghost use Rattle.std.specs.String.{string_bytes};
+    ghost use Rattle.std.specs.Arc.{arc_str_bytes};
 
     ghost Value = { List ℕ };
 
-    ghost view = { λ s. string_bytes s.text };
+    ghost view = { λ s. arc_str_bytes s.text };
 }
 
 impl Str {
@@ -34,7 +35,7 @@ impl Str {
     pub fn of(alloc: Global, text: &str) -> Result<Str, NoMemory>
         ensures equal { IfOk result (λ copy. copy ≡ text.now) }
     {
-        let text = String::from_str(alloc, text)?;
+        let text = ArcStr::from_str(alloc, text)?;
         Ok(Str { text })
     }
 
@@ -46,10 +47,16 @@ impl Str {
     }
 
     /// A text of its own with the same bytes, or `NoMemory` if memory runs out.
+    ///
+    /// The two share the bytes, and this takes no memory, but for the 2^63rd text that shares them.
     pub fn clone_str(&self, alloc: Global) -> Result<Str, NoMemory>
         ensures equal { IfOk result (λ copy. copy ≡ self.now) }
     {
-        Str::of(alloc, self.as_str())
+        match self.text.clone() {
+            Ok(text) => Ok(Str { text }),
+            // The count of the texts that share the bytes is full.
+            Err(_) => Str::of(alloc, self.as_str()),
+        }
     }
 }
 
