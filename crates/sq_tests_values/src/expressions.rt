@@ -1,4 +1,8 @@
 //! Expressions and conditions: that calls succeed with ample memory, and that the meaning is the intended one.
+ghost use Rattle.std.specs.Prelude.{◌≡◌, true};
+ghost use Rattle.sq_expr.specs.declared.cond.Cond.TheVariants.{Null as IsNull};
+ghost use Rattle.sq_expr.specs.declared.expr.Expr.TheVariants.{Column};
+
 use crate::fixtures::{row_of, text_of};
 use sq_expr::{
     Cmp, Cond, Expr, ItemFault, Kind, Num, OutOfRange, Sort, Term, bound, eval, expr_sort,
@@ -134,22 +138,32 @@ const COMPARISONS: [(Cmp, Tri, Tri, Tri); 6] = [
     (Cmp::Ge, Tri::False, Tri::True, Tri::True),
 ];
 
+// Which of the three is expected of two values that stand in this order; without an order, one is NULL.
+fn expected_of(order: Option<Ordering>, less: Tri, equal: Tri, greater: Tri) -> Tri {
+    match order {
+        None => Tri::Unknown,
+        Some(Ordering::Less) => less,
+        Some(Ordering::Equal) => equal,
+        Some(Ordering::Greater) => greater,
+    }
+}
+
+// The truth of the comparison of the two values of the row.
+fn compared(cmp: Cmp, row: &Row, kinds: &[Kind]) -> Option<Tri> {
+    let cond = Cond::Compare {
+        cmp,
+        left: Expr::Column(0),
+        right: Expr::Column(1),
+    };
+    truth_on(&cond, row, kinds)
+}
+
 // The two values of the row compare as values do that stand in this order; without an order, one is NULL.
 fn check_comparisons(rt: &impl Abort, row: &Row, kinds: &[Kind], order: Option<Ordering>) {
     for (cmp, less, equal, greater) in COMPARISONS {
-        let cond = Cond::Compare {
-            cmp,
-            left: Expr::Column(0),
-            right: Expr::Column(1),
-        };
-        let expected = match order {
-            None => Tri::Unknown,
-            Some(Ordering::Less) => less,
-            Some(Ordering::Equal) => equal,
-            Some(Ordering::Greater) => greater,
-        };
+        let expected = expected_of(order, less, equal, greater);
         assert_eq!(rt;
-            truth_on(&cond, row, kinds),
+            compared(cmp, row, kinds),
             Some(expected),
             "{cmp:?} at {row:?}"
         );
@@ -217,6 +231,18 @@ fn conds_of(alloc: Global, truths: &[Tri]) -> Result<Items<Cond>, Fail> {
     Ok(conds)
 }
 
+// The truth on the row of all of some conditions.
+fn truth_of_all(alloc: Global, row: &Row, truths: &[Tri]) -> Result<Option<Tri>, Fail> {
+    let all = Cond::All(conds_of(alloc, truths)?);
+    Ok(truth_on(&all, row, &[Kind::Integer]))
+}
+
+// The truth on the row of any of some conditions.
+fn truth_of_any(alloc: Global, row: &Row, truths: &[Tri]) -> Result<Option<Tri>, Fail> {
+    let any = Cond::Any(conds_of(alloc, truths)?);
+    Ok(truth_on(&any, row, &[Kind::Integer]))
+}
+
 // All of some conditions, and any of them, on a row whose one value is NULL.
 fn check_joined(
     rt: &impl Abort,
@@ -225,13 +251,17 @@ fn check_joined(
     least: Tri,
     greatest: Tri,
 ) -> Result<(), Fail> {
-    let kinds = [Kind::Integer];
     let row = row_of(alloc, &[None])?;
-    let all = Cond::All(conds_of(alloc, truths)?);
-    assert_eq!(rt; truth_on(&all, &row, &kinds), Some(least));
-    let any = Cond::Any(conds_of(alloc, truths)?);
-    assert_eq!(rt; truth_on(&any, &row, &kinds), Some(greatest));
+    assert_eq!(rt; truth_of_all(alloc, &row, truths)?, Some(least));
+    assert_eq!(rt; truth_of_any(alloc, &row, truths)?, Some(greatest));
     Ok(())
+}
+
+// Two conditions, and both with the first once more.
+fn check_two(rt: &impl Abort, alloc: Global, a: Tri, b: Tri, in_order: bool) -> Result<(), Fail> {
+    let (least, greatest) = if in_order { (a, b) } else { (b, a) };
+    check_joined(rt, alloc, &[a, b], least, greatest)?;
+    check_joined(rt, alloc, &[a, b, a], least, greatest)
 }
 
 #[test]
@@ -242,12 +272,16 @@ fn conditions_join_by_their_order(rt: HostRuntime) -> Result<(), Fail> {
     let truths = [Tri::False, Tri::Unknown, Tri::True];
     for (i, a) in truths.iter().enumerate() {
         for (j, b) in truths.iter().enumerate() {
-            let (least, greatest) = if i < j { (*a, *b) } else { (*b, *a) };
-            check_joined(&rt, alloc, &[*a, *b], least, greatest)?;
-            check_joined(&rt, alloc, &[*a, *b, *a], least, greatest)?;
+            check_two(&rt, alloc, *a, *b, i < j)?;
         }
     }
     Ok(())
+}
+
+// The truth on the row of the negation of a condition.
+fn truth_of_negation(alloc: Global, row: &Row, truth: Tri) -> Result<Option<Tri>, Fail> {
+    let not = Cond::Not(Boxed::new(alloc, cond_of(truth))?);
+    Ok(truth_on(&not, row, &[Kind::Integer]))
 }
 
 #[test]
@@ -260,8 +294,7 @@ fn negations_keep_unknown(rt: HostRuntime) -> Result<(), Fail> {
         (Tri::True, Tri::False),
     ];
     for (truth, opposite) in rows {
-        let not = Cond::Not(Boxed::new(alloc, cond_of(truth))?);
-        assert_eq!(rt; truth_on(&not, &row, &[Kind::Integer]), Some(opposite));
+        assert_eq!(rt; truth_of_negation(alloc, &row, truth)?, Some(opposite));
     }
     Ok(())
 }
@@ -308,23 +341,35 @@ fn terms_are_added_and_subtracted(rt: HostRuntime) -> Result<(), Fail> {
 
 const HALF: u64 = 9223372036854775808;
 
-fn product_bound(alloc: Global, numbers: &[u64]) -> Result<Option<u128>, Fail> {
-    Ok(bound(&product_of(alloc, numbers)?, &[]))
+// The bound of the product of numbers.
+fn check_product(
+    rt: &impl Abort,
+    alloc: Global,
+    numbers: &[u64],
+    expected: Option<u128>,
+) -> Result<(), Fail> {
+    let product = product_of(alloc, numbers)?;
+    assert_eq!(rt; bound(&product, &[]), expected);
+    Ok(())
 }
 
 #[test]
 fn bounds_end_below_127_bits(rt: HostRuntime) -> Result<(), Fail> {
     let alloc = rt.alloc();
-    assert_eq!(rt; product_bound(alloc, &[])?, Some(1));
-    assert_eq!(rt; product_bound(alloc, &[0, 7])?, Some(7));
-    assert_eq!(rt; product_bound(alloc, &[HALF, HALF, 1])?, Some(1 << 126));
-    assert_eq!(rt; product_bound(alloc, &[HALF, HALF, 2])?, None);
-    assert_eq!(rt; product_bound(alloc, &[HALF, HALF, HALF, HALF, 0])?, None);
+    check_product(&rt, alloc, &[], Some(1))?;
+    check_product(&rt, alloc, &[0, 7], Some(7))?;
+    check_product(&rt, alloc, &[HALF, HALF, 1], Some(1 << 126))?;
+    check_product(&rt, alloc, &[HALF, HALF, 2], None)?;
+    check_product(&rt, alloc, &[HALF, HALF, HALF, HALF, 0], None)
+}
+
+#[test]
+fn bounds_of_columns_are_those_of_their_kinds(rt: HostRuntime) -> Result<(), Fail> {
     let kinds = [Kind::Integer, Kind::Bigint, Kind::Text];
     for (at, expected) in [(0, 1 << 31), (1, 1 << 63), (2, 0)] {
         assert_eq!(rt; bound(&Expr::Column(at), &kinds), Some(expected));
     }
-    let sum = sum_of(alloc, &[(false, 0), (true, 1)])?;
+    let sum = sum_of(rt.alloc(), &[(false, 0), (true, 1)])?;
     assert_eq!(rt; bound(&sum, &kinds), Some((1 << 31) + (1 << 63)));
     Ok(())
 }
@@ -396,6 +441,22 @@ fn texts_have_no_arithmetic(rt: HostRuntime) -> Result<(), Fail> {
     assert_eq!(rt; expr_sort(&Expr::Column(4), &kinds), None);
     assert_eq!(rt; sort_of_sum(alloc, 0, 2)?, Some(Sort::Numeric));
     assert_eq!(rt; sort_of_sum(alloc, 0, 1)?, None);
+    Ok(())
+}
+
+// Whether the two columns may be compared.
+fn can_compare(left: u32, right: u32, kinds: &[Kind]) -> bool {
+    let cond = Cond::Compare {
+        cmp: Cmp::Le,
+        left: Expr::Column(left),
+        right: Expr::Column(right),
+    };
+    suits_cond(&cond, kinds)
+}
+
+#[test]
+fn texts_compare_with_texts_alone(rt: HostRuntime) {
+    let kinds = [Kind::Integer, Kind::Text, Kind::Bigint, Kind::Text];
     let rows = [
         (0, 2, true),
         (1, 3, true),
@@ -404,14 +465,12 @@ fn texts_have_no_arithmetic(rt: HostRuntime) -> Result<(), Fail> {
         (0, 4, false),
     ];
     for (left, right, expected) in rows {
-        let cond = Cond::Compare {
-            cmp: Cmp::Le,
-            left: Expr::Column(left),
-            right: Expr::Column(right),
-        };
-        assert_eq!(rt; suits_cond(&cond, &kinds), expected, "{left} and {right}");
+        assert_eq!(rt;
+            can_compare(left, right, &kinds),
+            expected,
+            "{left} and {right}"
+        );
     }
-    Ok(())
 }
 
 #[test]
@@ -441,10 +500,16 @@ fn shown(alloc: Global, cond: &Cond) -> Result<String, Fail> {
     Ok(format!(in alloc; "{cond:?}")?)
 }
 
+// How a copy of the condition is written.
+fn copy_shown(alloc: Global, cond: &Cond) -> Result<String, Fail> {
+    let copy = cond.clone_cond(alloc)?;
+    shown(alloc, &copy)
+}
+
 // Whether a copy of the condition is written as the condition is.
 fn is_copied(alloc: Global, cond: &Cond) -> Result<bool, Fail> {
-    let copy = cond.clone_cond(alloc)?;
-    Ok(shown(alloc, cond)? == shown(alloc, &copy)?)
+    let copy = copy_shown(alloc, cond)?;
+    Ok(shown(alloc, cond)? == copy)
 }
 
 fn negative_sum(alloc: Global) -> Result<Expr, Fail> {
@@ -476,15 +541,18 @@ fn negation(alloc: Global) -> Result<Cond, Fail> {
     Ok(Cond::Not(Boxed::new(alloc, any)?))
 }
 
+fn check_copied(rt: &impl Abort, alloc: Global, cond: Cond) -> Result<(), Fail> {
+    assert!(rt; is_copied(alloc, &cond)?);
+    Ok(())
+}
+
 #[test]
 fn copies_are_the_same(rt: HostRuntime) -> Result<(), Fail> {
     let alloc = rt.alloc();
-    assert!(rt; is_copied(alloc, &comparison(alloc)?)?);
-    assert!(rt; is_copied(alloc, &comparison_of_texts(alloc)?)?);
-    assert!(rt; is_copied(alloc, &negation(alloc)?)?);
-    let all = Cond::All(conds_of(alloc, &[Tri::True])?);
-    assert!(rt; is_copied(alloc, &all)?);
-    Ok(())
+    check_copied(&rt, alloc, comparison(alloc)?)?;
+    check_copied(&rt, alloc, comparison_of_texts(alloc)?)?;
+    check_copied(&rt, alloc, negation(alloc)?)?;
+    check_copied(&rt, alloc, Cond::All(conds_of(alloc, &[Tri::True])?))
 }
 
 // Whether two sums of columns are the same.
@@ -519,19 +587,20 @@ fn shifted_columns_stand_further_on(rt: HostRuntime) -> Result<(), Fail> {
     Ok(())
 }
 
+// Whether the column is not NULL.
+fn stands_at(column: u32) -> Cond
+    ensures { result ≡ IsNull (Column column) true }
+{
+    Cond::Null {
+        expr: Expr::Column(column),
+        negated: true,
+    }
+}
+
 #[test]
 fn shifted_conditions_test_further_on(rt: HostRuntime) -> Result<(), Fail> {
-    let alloc = rt.alloc();
-    let cond = Cond::Null {
-        expr: Expr::Column(1),
-        negated: true,
-    };
-    let further = Cond::Null {
-        expr: Expr::Column(3),
-        negated: true,
-    };
-    let shifted = cond.shifted(alloc, 2)?;
-    assert!(rt; shifted.is_same(&further));
-    assert!(rt; !shifted.is_same(&cond));
+    let shifted = stands_at(1).shifted(rt.alloc(), 2)?;
+    assert!(rt; shifted.is_same(&stands_at(3)));
+    assert!(rt; !shifted.is_same(&stands_at(1)));
     Ok(())
 }

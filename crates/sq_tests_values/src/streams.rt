@@ -66,46 +66,41 @@ fn a_source_in_memory_gives_its_pieces(rt: HostRuntime) -> Result<(), AllocError
     reads(&rt, alloc, (3, 0), &[1], &[Ok(0), Err(Failed), Ok(0)])
 }
 
-// Makes a sink and hands it "abcd" at each call, compares what each answers, and hands out the sink.
+// Makes a sink and hands it "abcd" at each call, and compares what each answers and what the sink has taken in the end.
 fn writes(
     rt: &impl Abort,
     alloc: Global,
     (piece, room): (usize, usize),
     failing: &[u64],
     outcomes: &[Result<usize, Failed>],
-) -> Result<MemSink, NoMemory> {
+    taken: &[u8],
+) -> Result<(), NoMemory> {
     let mut sink = MemSink::new(alloc, piece, room, Vec::from_slice(alloc, failing)?)?;
     for outcome in outcomes {
         assert_eq!(rt; sink.write(b"abcd"), *outcome, "piece {piece}, room {room}");
     }
-    Ok(sink)
+    assert_eq!(rt; sink.taken(), taken);
+    Ok(())
 }
 
 #[test]
 fn a_sink_in_memory_takes_its_pieces(rt: HostRuntime) -> Result<(), NoMemory> {
     let alloc = rt.alloc();
-    let sink = writes(
-        &rt,
-        alloc,
-        (9, 10),
-        &[],
-        &[Ok(4), Ok(4), Ok(2), Err(Failed)],
-    )?;
-    assert_eq!(rt; sink.taken(), b"abcdabcdab".as_slice());
-    let sink = writes(&rt, alloc, (3, 100), &[], &[Ok(3), Ok(3)])?;
-    assert_eq!(rt; sink.taken(), b"abcabc".as_slice());
-    let sink = writes(&rt, alloc, (0, 2), &[], &[Ok(1), Ok(1), Err(Failed)])?;
-    assert_eq!(rt; sink.taken(), b"aa".as_slice());
-    let sink = writes(
-        &rt,
-        alloc,
-        (3, 4),
-        &[1],
-        &[Ok(3), Err(Failed), Ok(1), Err(Failed)],
-    )?;
-    assert_eq!(rt; sink.taken(), b"abca".as_slice());
-    // Where nothing is handed over no room is needed.
-    let mut sink = writes(&rt, alloc, (3, 0), &[], &[Err(Failed)])?;
+    let all = &[Ok(4), Ok(4), Ok(2), Err(Failed)];
+    writes(&rt, alloc, (9, 10), &[], all, b"abcdabcdab")?;
+    writes(&rt, alloc, (3, 100), &[], &[Ok(3), Ok(3)], b"abcabc")?;
+    let single = &[Ok(1), Ok(1), Err(Failed)];
+    writes(&rt, alloc, (0, 2), &[], single, b"aa")?;
+    let failing = &[Ok(3), Err(Failed), Ok(1), Err(Failed)];
+    writes(&rt, alloc, (3, 4), &[1], failing, b"abca")
+}
+
+// If nothing is handed over no room is needed.
+#[test]
+fn a_full_sink_takes_nothing(rt: HostRuntime) -> Result<(), NoMemory> {
+    let alloc = rt.alloc();
+    let mut sink = MemSink::new(alloc, 3, 0, Vec::new(alloc))?;
+    assert_eq!(rt; sink.write(b"abcd"), Err(Failed));
     assert_eq!(rt; sink.write(b""), Ok(0));
     Ok(())
 }
@@ -178,15 +173,17 @@ fn standard_output_takes_all(rt: HostRuntime) {
 }
 
 #[test]
-fn streams_of_std_are_passed_on(rt: HostRuntime) {
+fn readers_of_std_are_passed_on(rt: HostRuntime) {
     let answers = &[Some(2), None, Some(0), Some(9)];
     let mut source = StdSource::new(Scripted { answers, calls: 0 });
     let mut buf = [0; 4];
-    assert_eq!(rt; read_from(&mut source, &mut buf), Ok(2));
-    assert_eq!(rt; read_from(&mut source, &mut buf), Err(Failed));
-    assert_eq!(rt; read_from(&mut source, &mut buf), Ok(0));
-    assert_eq!(rt; read_from(&mut source, &mut buf), Ok(4));
+    for outcome in [Ok(2), Err(Failed), Ok(0), Ok(4)] {
+        assert_eq!(rt; read_from(&mut source, &mut buf), outcome);
+    }
+}
 
+#[test]
+fn writers_of_std_are_passed_on(rt: HostRuntime) {
     let answers = &[Some(2), Some(0), Some(0), None, Some(9)];
     let mut sink = StdSink::new(Scripted { answers, calls: 0 });
     assert_eq!(rt; write_to(&mut sink, b"abcd"), Ok(2));

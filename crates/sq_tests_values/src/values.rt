@@ -1,6 +1,9 @@
 //! Values, texts and rows: that calls succeed with ample memory, and that the orders are the intended ones.
+ghost use Rattle.std.specs.Prelude.{◌≡◌, IfOk, length};
+
 use crate::fixtures::{row_of, text_of};
 use sq_value::{Row, Str, Tri, Value, key_bytes};
+use std::alloc::Global;
 use std::convert::AsStr;
 use std::hash::{DefaultHasher, Hash, Hasher};
 use std::process::Abort;
@@ -20,33 +23,59 @@ fn lent<T: AsStr>(item: &T) -> &str {
 fn check_ascending<T: Ord + Drop>(rt: &impl Abort, items: Vec<T>) {
     for (i, a) in items.iter().enumerate() {
         for (j, b) in items.iter().enumerate() {
-            assert_eq!(rt; a.cmp(b), i.cmp(&j), "at {i} and {j}");
-            assert_eq!(rt; a == b, i == j, "at {i} and {j}");
-            assert_eq!(rt; a < b, i < j, "at {i} and {j}");
+            let found = (a.cmp(b), a == b, a < b);
+            assert_eq!(rt; found, (i.cmp(&j), i == j, i < j), "at {i} and {j}");
         }
     }
 }
 
 #[test]
-fn copies_are_equal(rt: HostRuntime) -> Result<(), Fail> {
+fn copies_of_texts_are_equal(rt: HostRuntime) -> Result<(), Fail> {
     let alloc = rt.alloc();
     let text = Str::of(alloc, "źdźbło")?;
     let copy = text.clone_str(alloc)?;
     assert_eq!(rt; lent(&text), "źdźbło");
     assert_eq!(rt; lent(&copy), "źdźbło");
     assert_eq!(rt; hash_of(&text), hash_of(&copy));
-
-    let row = Row::of(vec![in alloc; Value::Null, Value::Int(-7), Value::Text(text)]?);
-    let same = row.clone_row(alloc)?;
-    assert_eq!(rt; same.len(), 3);
-    assert!(rt; *same.at(0) == Value::Null);
-    assert!(rt; *same.at(1) == Value::Int(-7));
-    assert!(rt; *same.at(2) == Value::Text(copy));
-    assert!(rt; row == same);
-    let last = row.at(2).clone_value(alloc)?;
-    assert!(rt; last == *same.at(2));
-    assert_eq!(rt; hash_of(&row), hash_of(&same));
     Ok(())
+}
+
+// NULL, -7 and the text.
+fn row_with_text(alloc: Global, text: &str) -> Result<Row, Fail>
+    ensures { IfOk result (λ row. length row ≡ 3) }
+{
+    let text = text_of(alloc, text)?;
+    Ok(Row::of(vec![in alloc; Value::Null, Value::Int(-7), text]?))
+}
+
+// The row has these values, and a copy of it is the same.
+fn check_copy(rt: &impl Abort, row: &Row, copy: &Row, text: &Value) {
+    assert_eq!(rt; copy.len(), 3);
+    assert!(rt; *copy.at(0) == Value::Null);
+    assert!(rt; *copy.at(1) == Value::Int(-7));
+    assert!(rt; *copy.at(2) == *text);
+    assert!(rt; *row == *copy);
+    assert_eq!(rt; hash_of(row), hash_of(copy));
+}
+
+#[test]
+fn copies_of_rows_are_equal(rt: HostRuntime) -> Result<(), Fail> {
+    let alloc = rt.alloc();
+    let row = row_with_text(alloc, "źdźbło")?;
+    let last = row.at(2).clone_value(alloc)?;
+    let copy = row.clone_row(alloc)?;
+    check_copy(&rt, &row, &copy, &last);
+    check_copy(&rt, &row, &copy, &text_of(alloc, "źdźbło")?);
+    Ok(())
+}
+
+// The rows of these numbers and NULLs.
+fn rows_of(alloc: Global, rows: &[&[Option<i64>]]) -> Result<Vec<Row>, Fail> {
+    let mut list = Vec::new(alloc);
+    for numbers in rows {
+        list.push(row_of(alloc, numbers)?)?;
+    }
+    Ok(list)
 }
 
 #[test]
@@ -66,15 +95,16 @@ fn values_go_by_kind_and_size(rt: HostRuntime) -> Result<(), Fail> {
 
 #[test]
 fn rows_go_column_by_column(rt: HostRuntime) -> Result<(), Fail> {
-    let alloc = rt.alloc();
-    let mut rows = vec![in alloc; row_of(alloc, &[])?]?;
-    rows.push(row_of(alloc, &[None])?)?;
-    rows.push(row_of(alloc, &[None, Some(5)])?)?;
-    rows.push(row_of(alloc, &[Some(1)])?)?;
-    rows.push(row_of(alloc, &[Some(1), None])?)?;
-    rows.push(row_of(alloc, &[Some(1), Some(2)])?)?;
-    rows.push(row_of(alloc, &[Some(2), Some(1)])?)?;
-    check_ascending(&rt, rows);
+    let rows: [&[Option<i64>]; 7] = [
+        &[],
+        &[None],
+        &[None, Some(5)],
+        &[Some(1)],
+        &[Some(1), None],
+        &[Some(1), Some(2)],
+        &[Some(2), Some(1)],
+    ];
+    check_ascending(&rt, rows_of(rt.alloc(), &rows)?);
     Ok(())
 }
 
