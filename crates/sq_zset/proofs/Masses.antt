@@ -1,13 +1,14 @@
 -- The mass of a Z-set of rows, the sum of its absolute weights.
-use Rattle.std.proofs.Common.{◌≡◌, ℕ, ◌+◌, ◌≤◌, ◌+ℤ◌, ◌≤ℤ◌, List, [], ◌∷◌, ◌++◌, Bool, true, false, cond, ℤ, pos, negsuc, neg_ℤ, unsigned_abs, get_or, refl, sym, ap, ap₂, subst, ◌∙◌, arith}
-use Rattle.std.specs.List.{All, AllByRecursion, filter}
+use Rattle.std.proofs.Common.{◌≡◌, ℕ, ◌+◌, ◌*◌, ◌≤◌, ◌+ℤ◌, ◌*ℤ◌, ◌≤ℤ◌, List, [], ◌∷◌, ◌++◌, length, Bool, true, false, cond, ℤ, pos, negsuc, neg_ℤ, unsigned_abs, get_or, Option, Some, None, refl, sym, ap, ap₂, subst, ◌∙◌, mul-add, add-mul, is_eq, arith}
+use Rattle.std.specs.List.{All, AllByRecursion, filter, flat_map}
+use Rattle.std.proofs.lemmas.Int.{unsigned_abs-mul}
 use Rattle.std.proofs.lemmas.List.Elements.{recursion_from_All}
 use Rattle.std.proofs.lemmas.List.Sums.{sum_by-append, sum_by-cons}
 use borrow.Author.Differences.{ints}
 use Rattle.sq_value.specs.declared.value.Value.{Value}
 use Rattle.sq_value.specs.Order.{row_cmp}
 use Rattle.sq_value.specs.OrderLaws.{row_cmp-total}
-use Rattle.sq_algebra.specs.Operators.{IsNonNegative, keep}
+use Rattle.sq_algebra.specs.Operators.{IsNonNegative, image, keep, pairs_where, product, weighing, where_same}
 use Rattle.sq_algebra.specs.ZSet.{ZSet, collect, entries, from_pairs, int_sum_by, minus, negate, negated, plus, total}
 use Rattle.sq_algebra.proofs.LinearLemmas.{entry_weight}
 use Rattle.sq_algebra.proofs.Weights.{entries-from_pairs, total-entries}
@@ -63,6 +64,69 @@ mass-minus y z = let whole = mass-plus y (negate z) in let part = mass-negate z 
 pub mass-keep : (p : List Value → Bool) (z : ZSet (List Value) row_cmp) → mass_of (entries (keep p z)) ≤ mass_of (entries z)
 unfolding keep
 mass-keep p z = let made = made_of (filter (λ e. p e.0) (entries z)) in let part = filtered p (entries z) in omega arith
+
+-- ---- images and products, at most one row for each row, or for each pair
+abbrev size : List Value × ℤ → ℕ
+size e = unsigned_abs e.1
+
+few_weigh : (n : ℤ) (rows : List (List Value)) → length rows ≤ 1 → mass_of (weighing n rows) ≤ unsigned_abs n
+few_weigh n [] few = omega arith
+few_weigh n (row ∷ []) few = omega arith
+few_weigh n (row ∷ other ∷ rows) few = absurd (omega arith)
+
+images_weigh : (f : List Value → List (List Value)) → ((row : List Value) → length (f row) ≤ 1) → (es : List (List Value × ℤ)) → mass_of (flat_map (λ e. weighing e.1 (f e.0)) es) ≤ mass_of es
+images_weigh f few [] = omega arith
+images_weigh f few (e ∷ es) =
+    let first = few_weigh e.1 (f e.0) (few e.0) in
+    let rest = images_weigh f few es in
+    let both = sum_by-append size (weighing e.1 (f e.0)) (flat_map (λ (d : List Value × ℤ). weighing d.1 (f d.0)) es) in
+    let whole = sum_by-cons size e es in
+    omega arith
+
+module _ (f : List Value → List Value → List (List Value)) (few : (row other : List Value) → length (f row other) ≤ 1) where
+  row_weighs : (row : List Value) (n : ℤ) (es : List (List Value × ℤ)) → mass_of (flat_map (λ e. weighing (n *ℤ e.1) (f row e.0)) es) ≤ unsigned_abs n * mass_of es
+  row_weighs row n [] = omega arith
+  row_weighs row n (e ∷ es) =
+      let first = few_weigh (n *ℤ e.1) (f row e.0) (few row e.0) in
+      let weights = unsigned_abs-mul n e.1 in
+      let rest = row_weighs row n es in
+      let both = sum_by-append size (weighing (n *ℤ e.1) (f row e.0)) (flat_map (λ (d : List Value × ℤ). weighing (n *ℤ d.1) (f row d.0)) es) in
+      let spread : unsigned_abs n * mass_of (e ∷ es) ≡ unsigned_abs n * unsigned_abs e.1 + unsigned_abs n * mass_of es = ap (λ m. unsigned_abs n * m) (sum_by-cons size e es) ∙ mul-add (unsigned_abs n) (unsigned_abs e.1) (mass_of es) in
+      omega arith
+
+  pub pairs_weigh : (ds es : List (List Value × ℤ)) → mass_of (flat_map (λ d. flat_map (λ e. weighing (d.1 *ℤ e.1) (f d.0 e.0)) es) ds) ≤ mass_of ds * mass_of es
+  pairs_weigh [] es = omega arith
+  pairs_weigh (d ∷ ds) es =
+      let first = row_weighs d.0 d.1 es in
+      let rest = pairs_weigh ds es in
+      let both = sum_by-append size (flat_map (λ (e : List Value × ℤ). weighing (d.1 *ℤ e.1) (f d.0 e.0)) es) (flat_map (λ (c : List Value × ℤ). flat_map (λ (e : List Value × ℤ). weighing (c.1 *ℤ e.1) (f c.0 e.0)) es) ds) in
+      let spread : mass_of (d ∷ ds) * mass_of es ≡ unsigned_abs d.1 * mass_of es + mass_of ds * mass_of es = ap (λ m. m * mass_of es) (sum_by-cons size d ds) ∙ add-mul (unsigned_abs d.1) (mass_of ds) (mass_of es) in
+      omega arith
+
+pub mass-from_pairs : (ps : List (List Value × ℤ)) → mass_of (entries (from_pairs row_cmp ps)) ≤ mass_of ps
+mass-from_pairs ps = made_of ps
+
+pub mass-image : (f : List Value → List (List Value)) → ((row : List Value) → length (f row) ≤ 1) → (z : ZSet (List Value) row_cmp) → mass_of (entries (image row_cmp f z)) ≤ mass_of (entries z)
+unfolding image
+mass-image f few z = let made = made_of (flat_map (λ (e : List Value × ℤ). weighing e.1 (f e.0)) (entries z)) in let most = images_weigh f few (entries z) in omega arith
+
+pub mass-product : (f : List Value → List Value → List (List Value)) → ((row other : List Value) → length (f row other) ≤ 1) → (y z : ZSet (List Value) row_cmp)
+    → mass_of (entries (product row_cmp f y z)) ≤ mass_of (entries y) * mass_of (entries z)
+unfolding product
+mass-product f few y z =
+    let made = made_of (flat_map (λ (d : List Value × ℤ). flat_map (λ (e : List Value × ℤ). weighing (d.1 *ℤ e.1) (f d.0 e.0)) (entries z)) (entries y)) in
+    let most = pairs_weigh f few (entries y) (entries z) in
+    omega arith
+
+-- rows that are paired by their keys give at most one row
+pub one_where : (left right : List Value → Option (List Value)) (pair : List Value → List Value → Option (List Value)) (row other : List Value) → length (pairs_where row_cmp left right pair row other) ≤ 1
+one_where left right pair row other = one (left row) (right other) (pair row other)
+  where
+    one : (c d x : Option (List Value)) → length (where_same row_cmp c d x) ≤ 1
+    one None d x = omega arith
+    one (Some c) None x = omega arith
+    one (Some c) (Some d) None = omega arith
+    one (Some c) (Some d) (Some x) = elim (is_eq (row_cmp c d)) as (λ b. length (cond b (x ∷ []) []) ≤ 1) [ true ↦ omega arith | false ↦ omega arith ]
 
 -- ---- no weight below 0
 one_more : (n : ℤ) (m : ℕ) (s : ℤ) → pos 0 ≤ℤ n → pos m ≡ s → pos (unsigned_abs n + m) ≡ n +ℤ s

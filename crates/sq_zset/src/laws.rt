@@ -1,5 +1,5 @@
 //! Laws of Z-sets of rows, each as the contract of a function that does nothing.
-ghost use Rattle.std.specs.Prelude.{◌≡◌, ◌≤◌, ◌+◌, List, ◌++◌, length, Bool, pos, neg_ℤ, ◌+ℤ◌, ◌-ℤ◌, map, if◌then◌else◌};
+ghost use Rattle.std.specs.Prelude.{◌≡◌, ◌≤◌, ◌+◌, ◌*◌, ℤ, List, ◌++◌, length, Bool, pos, neg_ℤ, ◌+ℤ◌, ◌-ℤ◌, map, if◌then◌else◌};
 ghost use Rattle.std.specs.List.{filter, flat_map};
 ghost use Rattle.std.specs.Ordering.{is_eq};
 ghost use Rattle.sq_value.specs.declared.value.Value.{Value as Datum};
@@ -8,7 +8,7 @@ ghost use Rattle.sq_algebra.specs.Groups.{IsAbelian, IsAdditive, z_sets};
 ghost use Rattle.sq_algebra.specs.Keyed.{at_key};
 ghost use Rattle.sq_algebra.specs.Listed.{count, changed, first_of_each, among, without};
 ghost use Rattle.sq_algebra.specs.Operators.{IsNonNegative, image, keep, distinct, product, meet};
-ghost use Rattle.sq_algebra.specs.ZSet.{ZSet as Weighted, entries, zero, single, of_list, weight, total, plus, negate, minus};
+ghost use Rattle.sq_algebra.specs.ZSet.{ZSet as Weighted, entries, from_pairs, zero, single, of_list, weight, total, plus, negate, minus};
 ghost use Rattle.sq_zset.specs.Collecting.{mass_of};
 ghost use Rattle.sq_zset.specs.Loops.{nested_loops};
 
@@ -49,14 +49,19 @@ pub fn rows_have_totals()
 {}
 
 /// The mass of a Z-set is the sum of its absolute weights. If no weight is negative, it is the total. That of a sum or a
-/// difference is at most the sum of both, and that of a negation, or of the rows that pass a test, at most the whole:
-/// `|y + z| ≤ |y| + |z|`.
+/// difference is at most the sum of both, and that of a negation, of the rows that pass a test, or of images, at most one
+/// for each row, at most the whole. That of a product with at most one row for each pair is at most the product of both.
+/// Equal rows of a list of pairs may cancel: `|Σ n k| ≤ Σ |n|`, `|y + z| ≤ |y| + |z|`, `|y × z| ≤ |y| |z|`.
 pub fn masses_of_rows()
     ensures total { (z : Weighted (List Datum) row_cmp) → IsNonNegative z → pos (mass_of (entries z)) ≡ total z }
     ensures sum { (y z : Weighted (List Datum) row_cmp) → mass_of (entries (plus y z)) ≤ mass_of (entries y) + mass_of (entries z) }
     ensures difference { (y z : Weighted (List Datum) row_cmp) → mass_of (entries (minus y z)) ≤ mass_of (entries y) + mass_of (entries z) }
     ensures negation { (z : Weighted (List Datum) row_cmp) → mass_of (entries (negate z)) ≤ mass_of (entries z) }
     ensures part { (p : List Datum → Bool) (z : Weighted (List Datum) row_cmp) → mass_of (entries (keep p z)) ≤ mass_of (entries z) }
+    ensures pairs { (ps : List (List Datum × ℤ)) → mass_of (entries (from_pairs row_cmp ps)) ≤ mass_of ps }
+    ensures image { (f : List Datum → List (List Datum)) → ((row : List Datum) → length (f row) ≤ 1) → (z : Weighted (List Datum) row_cmp) → mass_of (entries (image row_cmp f z)) ≤ mass_of (entries z) }
+    ensures product { (f : List Datum → List Datum → List (List Datum)) → ((row other : List Datum) → length (f row other) ≤ 1)
+        → (y z : Weighted (List Datum) row_cmp) → mass_of (entries (product row_cmp f y z)) ≤ mass_of (entries y) * mass_of (entries z) }
 {}
 
 /// Images of rows, the rows that pass a test, the rows with a key, and products, in each of their sides, are additive.

@@ -1,4 +1,4 @@
-use Rattle.sq_zset.proofs.Masses.{mass-keep, mass-minus, mass-negate, mass-plus, mass-total}
+use Rattle.sq_zset.proofs.Masses.{mass-from_pairs, mass-image, mass-keep, mass-minus, mass-negate, mass-plus, mass-product, mass-total}
 use Rattle.sq_zset.proofs.laws.masses_of_rows.Goals as goal
 
 pub returns-clause-total : goal.returns-clause-total
@@ -15,3 +15,12 @@ returns-clause-negation c = mass-negate
 
 pub returns-clause-part : goal.returns-clause-part
 returns-clause-part c = mass-keep
+
+pub returns-clause-pairs : goal.returns-clause-pairs
+returns-clause-pairs c = mass-from_pairs
+
+pub returns-clause-image : goal.returns-clause-image
+returns-clause-image c = mass-image
+
+pub returns-clause-product : goal.returns-clause-product
+returns-clause-product c = mass-product
