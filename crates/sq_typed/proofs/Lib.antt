@@ -28,3 +28,4 @@ pub mod CheckedFits
 pub mod Latest
 pub mod Members
 pub mod WithinLemmas
+mod QueriesCross
