@@ -7,4 +7,5 @@ pub mod ParserReads
 pub mod Completeness
 pub mod Loops
 pub mod Programs
+pub mod SourceLemmas
 pub mod ExampleLemmas

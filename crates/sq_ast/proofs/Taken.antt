@@ -230,7 +230,7 @@ pub columns_taken : {ts rest : Tokens} {cs : _} → SpellsColumns ts cs rest →
 columns_taken s.no_columns = kept
 columns_taken (s.more_columns d ds) = took tt (onward (column_taken d) (columns_taken ds))
 
-flavour_taken : {ts rest : Tokens} {f : _} → SpellsFlavour ts f rest → Taken ts rest
+pub flavour_taken : {ts rest : Tokens} {f : _} → SpellsFlavour ts f rest → Taken ts rest
 flavour_taken s.no_flavour = kept
 flavour_taken s.materialized = took tt kept
 flavour_taken s.local = took tt kept

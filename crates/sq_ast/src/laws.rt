@@ -1,10 +1,11 @@
 //! What holds of the trees and of the tokens that spell them, as the contracts of functions that do nothing.
-ghost use Rattle.std.specs.Prelude.{◌≡◌, ◌⊎◌, List};
+ghost use Rattle.std.specs.Prelude.{◌≡◌, ◌≤◌, ◌*◌, ◌⊎◌, List, length};
 ghost use Rattle.sq_token.specs.declared.token.Token.{Token};
 ghost use Rattle.sq_ast.specs.declared.statement.Statement.{Statement as StatementTree};
 ghost use Rattle.sq_ast.specs.Examples as examples;
 ghost use Rattle.sq_ast.specs.Examples.{IsSpelled, IsUnspelled};
 ghost use Rattle.sq_ast.specs.Refusal.{Refusal, Refuses};
+ghost use Rattle.sq_ast.specs.Sources.{program_sources};
 ghost use Rattle.sq_ast.specs.Spelling.{Spells};
 
 use crate::{
@@ -25,6 +26,12 @@ pub fn one_verdict()
     ensures either { (tokens : List Token) → ((a : List StatementTree) × Spells tokens a) ⊎ ((why : Refusal) × Refuses tokens why) }
     ensures not_both { (tokens : List Token) (a : List StatementTree) (why : Refusal) → Spells tokens a → Refuses tokens why → ⊥ }
     ensures one_cause { (tokens : List Token) (why other : Refusal) → Refuses tokens why → Refuses tokens other → why ≡ other }
+{}
+
+/// A source costs two tokens or more: a program has at most half as many sources behind `FROM`, at every depth, as tokens.
+#[tactic(auto, using(crate::proofs::SourceLemmas::few_sources))]
+pub fn few_sources()
+    ensures { (tokens : List Token) (a : List StatementTree) → Spells tokens a → 2 * program_sources a ≤ length tokens }
 {}
 
 /// Small programs and what they spell, as `specs/Examples.antt` writes them.

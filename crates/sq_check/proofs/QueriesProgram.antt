@@ -138,7 +138,7 @@ is_checked statements i program spelled over so =
 
 -- ---- the first fault is passed on
 
-pub passed : (statements : List Statement) {A E : Type 0} (P Q : A → Type 0) (answer : Result A E) (fault : E) (R : E → Type 0) (Is : ℕ → CheckKind → E) → IsErrAnd answer R → ((y : E) → R y → y ≡ fault) → ((number : ℕ) (k : CheckKind) → fault ≡ Is number k → refused statements ≡ Some (number, k)) →
-    (IfOk answer P) × (IfOk answer Q) × ((number : ℕ) (k : CheckKind) → answer ≡ Err (Is number k) → refused statements ≡ Some (number, k))
-passed statements P Q (Ok p) fault R Is h same told = absurd h
-passed statements P Q (Err y) fault R Is h same told = (tt, tt, λ number k is. told number k (sym (same y h) ∙ cc is))
+pub passed : (statements : List Statement) {A E : Type 0} (P Q S : A → Type 0) (answer : Result A E) (fault : E) (R : E → Type 0) (Is : ℕ → CheckKind → E) → IsErrAnd answer R → ((y : E) → R y → y ≡ fault) → ((number : ℕ) (k : CheckKind) → fault ≡ Is number k → refused statements ≡ Some (number, k)) →
+    (IfOk answer P) × (IfOk answer Q) × (IfOk answer S) × ((number : ℕ) (k : CheckKind) → answer ≡ Err (Is number k) → refused statements ≡ Some (number, k))
+passed statements P Q S (Ok p) fault R Is h same told = absurd h
+passed statements P Q S (Err y) fault R Is h same told = (tt, tt, tt, λ number k is. told number k (sym (same y h) ∙ cc is))

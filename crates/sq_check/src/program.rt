@@ -1,10 +1,12 @@
 //! The program that statements mean, statement by statement.
 ghost use Rattle.std.specs.Prelude.{◌≡◌, ◌<◌, ◌-◌, ◌^◌, ◌++◌, ◌∷◌, [], ℕ, None as Nothing, Some, Err, false, IfErr, IfOk, OnOk, length, map};
 ghost use Rattle.std.specs.List.{AllByRecursion};
+ghost use Rattle.sq_ast.specs.Sources.{program_sources};
 ghost use Rattle.sq_catalog.specs.Names.{is_named};
 ghost use Rattle.sq_typed.specs.Checked.{Spelling};
 ghost use Rattle.sq_typed.specs.Faults.{described, first_kind, refused};
 ghost use Rattle.sq_typed.specs.Programs.{Typed, is_printed, kind_named, table_column, with_body};
+ghost use Rattle.sq_typed.specs.Sources.{sources_in};
 ghost use Rattle.sq_typed.specs.declared.check_kind.CheckKind.{CheckKind as Kinds};
 ghost use Rattle.sq_check.specs.declared.program.CheckFault.TheVariants.{Fault, Memory};
 
@@ -44,6 +46,7 @@ pub fn check(alloc: Global, statements: &[Statement]) -> Result<Program, CheckFa
     requires spelled { AllByRecursion Spelling statements.now }
     ensures accepted { IfOk result (λ program. refused statements.now ≡ Nothing) }
     ensures typed { IfOk result (λ program. Typed statements.now program) }
+    ensures sources { IfOk result (λ program. sources_in program ≡ program_sources statements.now) }
     ensures refused { (number : ℕ) (kind : Kinds) → result ≡ Err (Fault number kind) → refused statements.now ≡ Some (number, kind) }
 {
     let mut catalog = Catalog::new(alloc);

@@ -1,5 +1,5 @@
 -- What was read, against what is spelled and what is refused.
-use Rattle.std.specs.Prelude.{◌≡◌, ◌⊎◌, List, Vec, Result, Ok, Err, MatchResult, IfOk, IfErr, IsErrAnd, refl}
+use Rattle.std.specs.Prelude.{◌≡◌, ◌≤◌, ◌*◌, ◌⊎◌, List, length, Vec, Result, Ok, Err, MatchResult, IfOk, IfErr, IsErrAnd, refl}
 use Rattle.std.proofs.Common.{ap, inl, inr}
 use Rattle.std.specs.declared.alloc.Global.{Global}
 use Rattle.sq_token.specs.declared.token.Token.{Token}
@@ -7,7 +7,9 @@ use Rattle.sq_ast.specs.declared.statement.Statement.{Statement}
 use Rattle.sq_ast.specs.Spelling.{kinds, Spells}
 use Rattle.sq_ast.specs.Refusal.{Refusal, TooDeep, NotGrammar, Refuses}
 use Rattle.sq_ast.specs.Reading as r
+use Rattle.sq_ast.specs.Sources.{program_sources}
 use Rattle.sq_ast.proofs.Programs.{program_complete, program_sound, program_refused, program_refuses}
+use Rattle.sq_ast.proofs.SourceLemmas.{few_sources}
 use Rattle.sq_parse.specs.declared.fault.ParseFault.{ParseFault}
 use Rattle.sq_parse.specs.declared.fault.ParseFault.TheVariants as faults
 use Rattle.sq_parse.specs.Causes.{HasCause, fault_of, Faults}
@@ -18,6 +20,10 @@ Read ts answer = MatchResult answer (λ found. r.program (kinds ts) ≡ Ok found
 pub spelled : (ts : List Token) (answer : Result (Vec Statement Global) ParseFault) → Read ts answer → IfOk answer (λ found. Spells ts found.items)
 spelled ts (Ok found) h = program_sound (kinds ts) found.items h
 spelled ts (Err fault) h = tt
+
+pub few : (ts : List Token) (answer : Result (Vec Statement Global) ParseFault) → Read ts answer → IfOk answer (λ found. 2 * program_sources found.items ≤ length ts)
+few ts (Ok found) h = few_sources ts found.items (program_sound (kinds ts) found.items h)
+few ts (Err fault) h = tt
 
 only_memory : (ts : List Token) (list : List Statement) (fault : ParseFault) → Spells ts list → Faults fault (r.program (kinds ts)) → fault ≡ faults.Memory
 only_memory ts list faults.Memory g h = refl

@@ -1,8 +1,9 @@
 //! Lists of statements.
-ghost use Rattle.std.specs.Prelude.{◌≡◌, ◌<◌, ◌+◌, ◌-◌, ◌^◌, ◌∷◌, ◌⊎◌, [], List, suc, if◌then◌else◌, length, Ok, MatchResult, MatchOption, IfOk, IfErr, IfSome, IsErrAnd};
+ghost use Rattle.std.specs.Prelude.{◌≡◌, ◌<◌, ◌+◌, ◌-◌, ◌*◌, ◌^◌, ◌≤◌, ◌∷◌, ◌⊎◌, [], List, suc, if◌then◌else◌, length, Ok, MatchResult, MatchOption, IfOk, IfErr, IfSome, IsErrAnd};
 ghost use Rattle.std.specs.List.{position};
 ghost use Rattle.sq_token.specs.declared.token.TokenKind.TheVariants as token;
 ghost use Rattle.sq_ast.specs.declared.statement.Statement.{Statement as StatementTree};
+ghost use Rattle.sq_ast.specs.Sources.{program_sources};
 ghost use Rattle.sq_ast.specs.Words as w;
 ghost use Rattle.sq_ast.specs.Words.{is_token};
 ghost use Rattle.sq_ast.specs.Spelling.{kinds, Spells};
@@ -136,6 +137,8 @@ pub fn statements(alloc: Global, tokens: &[Token]) -> Result<Vec<Statement>, Par
     // What is answered are the statements that the tokens spell, and there is one list of them alone.
     ensures found { IfOk result (λ found. Spells tokens.now found.items) }
     ensures only { (list : List StatementTree) → Spells tokens.now list → MatchResult result (λ found. found.items ≡ list) (λ fault. fault ≡ Memory) }
+    // Their queries have at most half as many sources, at every depth, as there are tokens.
+    ensures sources { IfOk result (λ found. 2 * program_sources found.items ≤ length tokens.now) }
     // A refusal names the first statement that is refused, and tokens that are refused spell nothing.
     ensures refused { IfErr result (λ fault. HasCause tokens.now fault) }
     ensures first { (why : Refusal) → Refuses tokens.now why → IsErrAnd result (λ fault. (fault ≡ Memory) ⊎ (fault ≡ fault_of why)) }

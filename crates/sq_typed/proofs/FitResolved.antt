@@ -39,7 +39,7 @@ use Rattle.sq_typed.proofs.FitBlocks.{all_unmapped, ons_suit, kinds_of_item_row,
 use Rattle.sq_typed.proofs.FitEquations.{kinded_source-is, kinded-Relation, kinded-Query, kinded-Block, kinded-Chain, kinded-Intersect}
 use Rattle.sq_typed.proofs.FitQueries.{or_left, or_right, none_pass}
 use Rattle.sq_typed.proofs.FitTests.{both_true}
-use Rattle.sq_typed.proofs.QueryEquations.{resolved_source, resolved_joined, resolved_step, joined-is, step-is, resolved-Block, resolved-Chain, resolved-Intersect, source-Relation, source-Query}
+use Rattle.sq_typed.proofs.QueryEquations.{resolved_source, resolved_joined, resolved_step, joined_at, step_at, block_at, resolved-Chain, resolved-Intersect, source-Relation, source-Query}
 use Rattle.sq_typed.proofs.QueryTrees.{QueryTreeCases, each_query_tree}
 
 abbrev kind_in : Column → Kind
@@ -302,27 +302,16 @@ module _ (relations : List Relation) where
   abbrev SourceTreeOk : SourceTree → Type 0
   SourceTreeOk s = SourceOk (resolved_source relations s)
 
-  joined_at : (j : JoinedTree) → resolved_joined relations j ≡ record { join = j.join; source = resolved_source relations j.source }
-  joined_at j = ap (resolved_joined relations) (sym (roll-out-JoinedTree j)) ∙ joined-is relations j.join j.source
-
-  step_at : (s : StepTree) → resolved_step relations s ≡ (s.op, resolved relations s.query)
-  step_at s = ap (resolved_step relations) (sym (roll-out-StepTree s)) ∙ step-is relations s.op s.query
-
-  block_at : (b : BlockTree) → resolved relations (tree.Block b) ≡ of_block relations (record { distinct = (out-BlockTree b).distinct; items = (out-BlockTree b).items; sources = map (resolved_joined relations) (out-BlockTree b).sources; filter = (out-BlockTree b).filter; group = (out-BlockTree b).group; having = (out-BlockTree b).having })
-  block_at b =
-      ap (λ b. resolved relations (tree.Block b)) (sym (roll-out-BlockTree b))
-      ∙ resolved-Block relations (out-BlockTree b).distinct (out-BlockTree b).items (out-BlockTree b).sources (out-BlockTree b).filter (out-BlockTree b).group (out-BlockTree b).having
-
   tree_cases : QueryTreeCases TreeOk SourceTreeOk
   tree_cases = record {
-    block = λ b ss. subst Ok (sym (block_at b))
+    block = λ b ss. subst Ok (sym (block_at relations b))
         (block_ok (record { distinct = (out-BlockTree b).distinct; items = (out-BlockTree b).items; sources = map (resolved_joined relations) (out-BlockTree b).sources; filter = (out-BlockTree b).filter; group = (out-BlockTree b).group; having = (out-BlockTree b).having })
         (all_over (λ s. SourceOk s.source) (resolved_joined relations) (out-BlockTree b).sources
-        (all_weaker (λ j. SourceTreeOk j.source) (λ j. SourceOk (resolved_joined relations j).source) (out-BlockTree b).sources (λ j h. subst (λ (x : Joined). SourceOk x.source) (sym (joined_at j)) h) ss)));
+        (all_weaker (λ j. SourceTreeOk j.source) (λ j. SourceOk (resolved_joined relations j).source) (out-BlockTree b).sources (λ j h. subst (λ (x : Joined). SourceOk x.source) (sym (joined_at relations j)) h) ss)));
     chain = λ q rest h hs. subst Ok (sym (resolved-Chain relations q rest))
         (chain_ok (resolved relations q) (map (resolved_step relations) rest) h
         (all_over (λ s. Ok s.1) (resolved_step relations) rest
-        (all_weaker (λ s. TreeOk s.query) (λ s. Ok (resolved_step relations s).1) rest (λ s h. subst (λ (x : SetOp × Resolved). Ok x.1) (sym (step_at s)) h) hs)));
+        (all_weaker (λ s. TreeOk s.query) (λ s. Ok (resolved_step relations s).1) rest (λ s h. subst (λ (x : SetOp × Resolved). Ok x.1) (sym (step_at relations s)) h) hs)));
     intersect = λ qs hs. subst Ok (sym (resolved-Intersect relations qs)) (intersect_ok (map (resolved relations) qs) (all_over Ok (resolved relations) qs hs));
     relation = λ name alias. subst SourceOk (sym (source-Relation relations name alias)) (relation_ok name alias);
     of_query = λ q alias h. subst SourceOk (sym (source-Query relations q alias)) (query_ok (resolved relations q) alias h);

@@ -20,6 +20,7 @@ pub mod FitPrograms
 pub mod FitTests
 pub mod FitBlocks
 pub mod QueryTrees
+pub mod SourceLemmas
 pub mod FitResolved
 pub mod FitStatements
 pub mod WrittenLemmas

@@ -4,10 +4,10 @@ use Rattle.std.specs.Prelude.{Option}
 use Rattle.sq_ast.specs.Trees.{joined, step, block_of}
 use Rattle.sq_ast.specs.declared.cond.CondTree.{CondTree}
 use Rattle.sq_ast.specs.declared.expr.ColRef.{ColRef}
-use Rattle.sq_ast.specs.declared.query.BlockTree.{BlockTree, out-BlockTree, roll-BlockTree, out-roll-BlockTree}
+use Rattle.sq_ast.specs.declared.query.BlockTree.{BlockTree, out-BlockTree, roll-BlockTree, out-roll-BlockTree, roll-out-BlockTree}
 use Rattle.sq_ast.specs.declared.query.ItemTree.{ItemTree}
 use Rattle.sq_ast.specs.declared.query.JoinTree.{JoinTree}
-use Rattle.sq_ast.specs.declared.query.JoinedTree.{JoinedTree, out-roll-JoinedTree}
+use Rattle.sq_ast.specs.declared.query.JoinedTree.{JoinedTree, out-roll-JoinedTree, roll-out-JoinedTree}
 use Rattle.sq_ast.specs.declared.query.QueryTree.{QueryTree, roll-QueryTree}
 use Rattle.sq_ast.specs.declared.query.QueryTree.TheFolds.{fold-SourceTree, fold-BlockTree, fold-JoinedTree, fold-StepTree, map-QueryTree, map-SourceTree, fold-roll-QueryTree, fold-roll-SourceTree, fold_out-BlockTree, fold_out-JoinedTree, fold_out-StepTree}
 use Rattle.sq_ast.specs.declared.query.QueryTree.TheOpen.{QueryTree-F, SourceTree-F, BlockTree-F}
@@ -15,7 +15,7 @@ use Rattle.sq_ast.specs.declared.query.QueryTree.TheVariants as query
 use Rattle.sq_ast.specs.declared.query.SetOp.{SetOp}
 use Rattle.sq_ast.specs.declared.query.SourceTree.{SourceTree, roll-SourceTree}
 use Rattle.sq_ast.specs.declared.query.SourceTree.TheVariants as source
-use Rattle.sq_ast.specs.declared.query.StepTree.{StepTree, out-roll-StepTree}
+use Rattle.sq_ast.specs.declared.query.StepTree.{StepTree, out-roll-StepTree, roll-out-StepTree}
 use Rattle.sq_catalog.specs.declared.relation.Relation.{Relation}
 use Rattle.sq_typed.specs.Resolved.{Resolved, Source, Joined, of_query, of_source, of_block, of_joined, of_step, resolved}
 use Rattle.sq_typed.specs.Scopes.{Text}
@@ -88,5 +88,17 @@ module _ (relations : List Relation) where
 
   pub resolved-Intersect : (members : List QueryTree) → resolved relations (query.Intersect members) ≡ of_query relations (QueryTree-F.Intersect (map (resolved relations) members))
   resolved-Intersect members = ap (resolved relations) (sym (query.rolls-Intersect members)) ∙ query_rolls (QueryTree-F.Intersect members)
+
+  -- the same, of trees that are opened
+  pub joined_at : (j : JoinedTree) → resolved_joined j ≡ record { join = j.join; source = resolved_source j.source }
+  joined_at j = ap (resolved_joined) (sym (roll-out-JoinedTree j)) ∙ joined-is j.join j.source
+
+  pub step_at : (s : StepTree) → resolved_step s ≡ (s.op, resolved relations s.query)
+  step_at s = ap (resolved_step) (sym (roll-out-StepTree s)) ∙ step-is s.op s.query
+
+  pub block_at : (b : BlockTree) → resolved relations (query.Block b) ≡ of_block relations (record { distinct = (out-BlockTree b).distinct; items = (out-BlockTree b).items; sources = map (resolved_joined) (out-BlockTree b).sources; filter = (out-BlockTree b).filter; group = (out-BlockTree b).group; having = (out-BlockTree b).having })
+  block_at b =
+      ap (λ b. resolved relations (query.Block b)) (sym (roll-out-BlockTree b))
+      ∙ resolved-Block (out-BlockTree b).distinct (out-BlockTree b).items (out-BlockTree b).sources (out-BlockTree b).filter (out-BlockTree b).group (out-BlockTree b).having
 
 pub ruleset queries = (resolved-Block, resolved-Chain, resolved-Intersect, source-Relation, source-Query, joined-is, step-is)

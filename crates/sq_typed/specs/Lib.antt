@@ -3,6 +3,7 @@ pub mod Blocks
 pub mod Queries
 pub mod Tables
 pub mod Views
+pub mod Sources
 pub mod Relations
 pub mod Laws
 pub mod Examples

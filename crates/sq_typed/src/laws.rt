@@ -5,6 +5,8 @@ ghost use Rattle.std.specs.declared.result.Result.TheVariants.{Err as Refused};
 ghost use Rattle.sq_value.specs.Count.{count};
 ghost use Rattle.sq_ast.specs.declared.query.SetOp.{SetOp as Operation};
 ghost use Rattle.sq_ast.specs.declared.query.SetOp.TheVariants.{UnionAll, Union, Except};
+ghost use Rattle.sq_ast.specs.declared.statement.Statement.{Statement as StatementTree};
+ghost use Rattle.sq_ast.specs.Sources.{program_sources};
 ghost use Rattle.sq_expr.specs.declared.cond.Cond.{Cond as Condition};
 ghost use Rattle.sq_expr.specs.declared.expr.Expr.{Expr as Expression};
 ghost use Rattle.sq_expr.specs.declared.expr.Kind.{Kind as ColumnKind};
@@ -19,6 +21,8 @@ ghost use Rattle.sq_typed.specs.From.{Row, Answer, Source, from, inner, is_true,
 ghost use Rattle.sq_typed.specs.Blocks.{block_answer, item_rows, without_repeats};
 ghost use Rattle.sq_typed.specs.Queries.{Contents, answer, intersect_answer, intersect_rows, set_rows, source_of_item};
 ghost use Rattle.sq_typed.specs.Relations.{relations_of};
+ghost use Rattle.sq_typed.specs.Programs.{Typed};
+ghost use Rattle.sq_typed.specs.Sources.{sources_in};
 ghost use Rattle.sq_typed.specs.Tables.{Tables, after};
 ghost use Rattle.sq_typed.specs.Views.{Meant, views};
 ghost use Rattle.sq_typed.specs.Laws.{AgreeAt, AreOfWidth, BringKinds, FirstAbsent, HasColumns, HasItsWidth, HaveTheirWidths, HoldKinds, HoldTheirWidths, LeadTo, NamesThese, QueriesFit, TablesFit};
@@ -96,6 +100,12 @@ pub fn rows_are_counted()
     ensures except { (r : Row) (rows more : List Row) → count r (set_rows Except rows more) ≡ (if count r more == 0 then (if count r rows == 0 then 0 else 1) else 0) }
     ensures intersect { (r : Row) (rows more : List Row) → count r (intersect_rows rows more) ≡ (if count r more == 0 then 0 else if count r rows == 0 then 0 else 1) }
     ensures distinct { (r : Row) (rows : List Row) → count r (without_repeats true rows) ≡ (if count r rows == 0 then 0 else 1) }
+{}
+
+/// A program has as many sources behind `FROM`, at every depth, as the statements that mean it.
+#[tactic(auto, using(crate::proofs::SourceLemmas::as_many_sources))]
+pub fn sources_are_kept()
+    ensures { (statements : List StatementTree) (program : Meant) → Typed statements program → sources_in program ≡ program_sources statements }
 {}
 
 /// After some updates a table holds a row as often as before, and once more for each insert and once less for each delete

@@ -1,4 +1,5 @@
 use Rattle.std.proofs.Common.{◌∙◌, arith}
+use Rattle.sq_typed.proofs.SourceLemmas.{as_many_sources}
 use Rattle.sq_check.proofs.QueriesProgram.{nothing_yet, counted, one_more, all_done, is_checked, passed, refused_here}
 use Rattle.sq_check.specs.declared.program.CheckFault.TheVariants.{Fault}
 use Rattle.sq_check.proofs.program.check.Goals as goal
@@ -11,11 +12,11 @@ add_statement-requires c = counted c.args.statements.now c.loop-before.before (r
 
 pub returns-in_err-add_statement : goal.returns-in_err-add_statement
 returns-in_err-add_statement c =
-    let here = passed c.args.statements.now _ _ c.from_residual.result c.in_err-add_statement.field-0.0 _ Fault c.from_residual.ensures.1 (λ y same. same)
+    let here = passed c.args.statements.now _ _ _ c.from_residual.result c.in_err-add_statement.field-0.0 _ Fault c.from_residual.ensures.1 (λ y same. same)
     (λ number k is.
     let told = c.in_err-add_statement.ensures.fault number k is in
     refused_here c.args.statements.now c.loop-before.before c.index-statements-before.result (omega arith) c.index-statements-before.is (record { catalog = c.loop-before.catalog; queries = c.loop-before.queries }) c.loop-before.invariant number k told.0 told.1) in
-    record { accepted = here.0; typed = here.1; refused = here.2 }
+    record { accepted = here.0; typed = here.1; sources = here.2; refused = here.3 }
 
 pub loop-before-preserved : goal.loop-before-preserved
 loop-before-preserved c =
@@ -28,4 +29,5 @@ of-requires c = is_checked c.args.statements.now c.loop-before.before (record { 
 pub returns : goal.returns
 returns c =
     let done = all_done c.args.statements.now c.loop-before.before (record { catalog = c.loop-before.catalog; queries = c.loop-before.queries }) (omega arith) c.loop-before.invariant in
-    record { accepted = done.0; typed = c.of.ensures ∙ done.1; refused = λ number k is. absurd (cc is) }
+    let means = c.of.ensures ∙ done.1 in
+    record { accepted = done.0; typed = means; sources = as_many_sources c.args.statements.now _ means; refused = λ number k is. absurd (cc is) }
