@@ -1,5 +1,5 @@
 -- Accumulators are added, negated and measured number by number.
-use Rattle.std.proofs.Common.{◌≡◌, ℕ, zero, suc, List, [], ◌∷◌, map, Bool, true, false, cond, ℤ, pos, ◌+ℤ◌, neg_ℤ, Some, refl, ap, ap₂, ◌∙◌, arith, is_eq}
+use Rattle.std.proofs.Common.{◌≡◌, ℕ, zero, suc, List, [], ◌∷◌, map, Bool, true, false, cond, ℤ, pos, ◌+ℤ◌, neg_ℤ, Some, refl, sym, ap, ap₂, ◌∙◌, arith, is_eq}
 use Rattle.std.specs.Cmp.{nat_cmp_total}
 use Rattle.std.specs.FinMap.{nat_cmp-IsAntisymmetric}
 use Rattle.std.specs.Ordering.{nat_cmp}
@@ -8,18 +8,22 @@ use Rattle.std.proofs.lemmas.Option.{same_Some}
 use borrow.Author.Differences.{ints}
 use Rattle.sq_value.specs.declared.value.Value.{Value}
 use Rattle.sq_value.specs.Order.{row_cmp}
-use Rattle.sq_algebra.specs.Groups.{IsAdditive, integers, z_sets}
+use Rattle.sq_value.specs.OrderLaws.{row_cmp-total, row_cmp-antisymmetric}
+use Rattle.sq_algebra.specs.Groups.{IsAdditive, integers, sum_over, z_sets}
 use Rattle.sq_algebra.specs.Operators.{keep}
-use Rattle.sq_algebra.specs.ZSet.{ZSet, negate, plus, total, weight, weight_in, zero as no_rows}
+use Rattle.sq_algebra.specs.ZSet.{ZSet, entries, from_pairs, negate, of_list, plus, total, weight, weight_in, zero as no_rows}
+use Rattle.sq_algebra.proofs.EntryLemmas.{from_pairs-entries}
 use Rattle.sq_algebra.proofs.GroupLemmas.{additive-zero}
+use Rattle.sq_algebra.proofs.OperatorLemmas.{of_list-nil}
 use Rattle.sq_algebra.proofs.Weights.{same_weights, weight-from_pairs, weight-negate, weight-plus}
 use Rattle.sq_expr.specs.declared.expr.Func.{Func}
 use Rattle.sq_expr.specs.declared.expr.Func.TheVariants.{CountAll, Count, Sum, Min, Max}
 use Rattle.sq_zset.proofs.RowOperators.{keep-IsAdditive, lin-IsAdditive}
-use Rattle.sq_zset.proofs.Rows.{total-plus}
+use Rattle.sq_zset.proofs.Rows.{from_pairs-append, total-plus}
 use Rattle.sq_zset.specs.GroupLaws.{integers_are_abelian, rows_are_abelian}
 use Rattle.sq_ops.specs.declared.aggregate.Call.{Call}
 use Rattle.sq_ops.specs.Aggregates.{count_in, has_value, number_at, sum_in}
+use Rattle.sq_ops.specs.Measures.{weighted}
 use Rattle.sq_agg.specs.declared.tally.Tally.{Tally}
 use Rattle.sq_agg.specs.Accumulators.{accumulated, accumulator, call_count, call_sum, call_tally, count_place, sum_place, tallied}
 use Rattle.sq_agg.specs.GroupLaws.{accumulators_are_abelian}
@@ -142,3 +146,18 @@ module _ (calls : List Call) (z : ZSet (List Value) row_cmp) where
 
   pub sum_held : (i : ℕ) (call : Call) → slice_get calls i ≡ Some call → weight (sum_place i) (accumulated calls z) ≡ call_sum call.func call.arg z
   sum_held i call e = weight_of_sum (total z) (map (call_tally z) calls) i ∙ ap (λ t. t.sum) (mapped_tally (call_tally z) calls i call e)
+
+-- ---- row by row
+no_pairs : from_pairs row_cmp [] ≡ no_rows row_cmp
+unfolding of_list
+no_pairs = of_list-nil row_cmp row_cmp-total row_cmp-antisymmetric
+
+by_rows : (calls : List Call) (es : List (List Value × ℤ)) → accumulated calls (from_pairs row_cmp es) ≡ sum_over (z_sets nat_cmp) (λ e. accumulated calls (weighted e.0 e.1)) es
+by_rows calls [] = ap (accumulated calls) no_pairs ∙ accumulated-zero calls
+by_rows calls (e ∷ es) =
+    ap (accumulated calls) (from_pairs-append ((e.0, e.1) ∷ []) es)
+    ∙ (accumulated-IsAdditive calls).of_plus (weighted e.0 e.1) (from_pairs row_cmp es)
+    ∙ ap (λ acc. plus (accumulated calls (weighted e.0 e.1)) acc) (by_rows calls es)
+
+pub accumulated-rows : (calls : List Call) (z : ZSet (List Value) row_cmp) → accumulated calls z ≡ sum_over (z_sets nat_cmp) (λ e. accumulated calls (weighted e.0 e.1)) (entries z)
+accumulated-rows calls z = ap (accumulated calls) (sym (from_pairs-entries row_cmp row_cmp-total z)) ∙ by_rows calls (entries z)

@@ -1,16 +1,18 @@
 //! `Acc`: what is kept of a group for its aggregates, as an abelian group.
-ghost use Rattle.std.specs.Prelude.{◌≡◌, ◌≤◌, ◌^◌, None, IfOk};
+ghost use Rattle.std.specs.Prelude.{◌≡◌, ◌≤◌, ◌^◌, None, IfOk, unsigned_abs};
 ghost use Rattle.sq_agg.specs.Accumulators.{accumulated, count_place, first_number_outside, sum_place};
 ghost use Rattle.sq_algebra.specs.ZSet.{entries, weight};
 ghost use Rattle.sq_ops.specs.Aggregates.{SuitsSpec};
 ghost use Rattle.sq_ops.specs.Fits.{FitsRows};
+ghost use Rattle.sq_ops.specs.Measures.{weighted};
 ghost use Rattle.sq_zset.specs.Collecting.{mass_of};
 
 use crate::tally::{
-    Tally, copy_tallies, is_nothing, negate_tallies, plus_tallies, tallies_of, tally_at,
+    Tally, copy_tallies, is_nothing, negate_tallies, plus_tallies, tallies_of, tallies_of_row,
+    tally_at,
 };
 use sq_ops::{AggSpec, total_of};
-use sq_value::NoMemory;
+use sq_value::{NoMemory, Row};
 use sq_zset::{Group, ZFault, ZSet};
 use std::alloc::Global;
 use std::marker::Model;
@@ -58,6 +60,20 @@ impl Acc {
         let tallies = tallies_of(alloc, spec.calls.as_slice(), z)?;
         let rows = total_of(z);
         Ok(Acc { rows, tallies })
+    }
+
+    /// The accumulator of a row that is there as often as the weight says, for these calls; or `NoMemory` when memory
+    /// runs out. The weight is at most 2^62 and at least -2^62. That of a change is the sum of those of its rows.
+    pub fn of_row(alloc: Global, spec: &AggSpec, row: &Row, weight: i64) -> Result<Acc, NoMemory>
+        requires { unsigned_abs weight ≤ 2 ^ 62 }
+        ensures ok { IfOk result (λ acc. acc ≡ accumulated spec.now.calls (weighted row.now weight)) }
+        ensures in_range { IfOk result (λ acc. first_number_outside acc ≡ None) }
+    {
+        let tallies = tallies_of_row(alloc, spec.calls.as_slice(), row, weight)?;
+        Ok(Acc {
+            rows: weight,
+            tallies,
+        })
     }
 
     /// The number of rows. Takes no memory.

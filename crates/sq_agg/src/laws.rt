@@ -2,18 +2,21 @@
 ghost use Rattle.std.specs.Prelude.{◌≡◌, ℕ, List, slice_get, Some};
 ghost use Rattle.std.specs.Ordering.{nat_cmp};
 ghost use Rattle.sq_agg.specs.Accumulators.{accumulated, call_count, call_sum, count_place, sum_place};
-ghost use Rattle.sq_algebra.specs.Groups.{IsAdditive, z_sets};
-ghost use Rattle.sq_algebra.specs.ZSet.{ZSet, total, weight, zero};
+ghost use Rattle.sq_algebra.specs.Groups.{IsAdditive, sum_over, z_sets};
+ghost use Rattle.sq_algebra.specs.ZSet.{ZSet, entries, total, weight, zero};
+ghost use Rattle.sq_ops.specs.Measures.{weighted};
 ghost use Rattle.sq_ops.specs.declared.aggregate.Call.{Call as Calling};
 ghost use Rattle.sq_value.specs.declared.value.Value.{Value as Datum};
 ghost use Rattle.sq_value.specs.Order.{row_cmp};
 
 use crate::Acc;
 
-/// The accumulator of the rows of two Z-sets is the sum of theirs, and that of no rows is zero.
+/// The accumulator of the rows of two Z-sets is the sum of theirs, that of no rows is zero, and that of any is the sum of
+/// those of its rows, each with its weight.
 pub fn accumulators_add_up()
     ensures sums { (calls : List Calling) → IsAdditive (z_sets row_cmp) (z_sets nat_cmp) (accumulated calls) }
     ensures none { (calls : List Calling) → accumulated calls (zero row_cmp) ≡ zero nat_cmp }
+    ensures rows { (calls : List Calling) (z : ZSet (List Datum) row_cmp) → accumulated calls z ≡ sum_over (z_sets nat_cmp) (λ e. accumulated calls (weighted e.0 e.1)) (entries z) }
 {}
 
 /// In the accumulator of the rows of a group stand how many there are, and the count and the sum of each call.

@@ -1,15 +1,15 @@
 //! The count and the sum of one call, and lists of them.
-ghost use Rattle.std.specs.Prelude.{◌≡◌, ◌&&◌, ◌<◌, ◌^◌, ℤ, map, pos, length, unsigned_abs, IfOk, OnOk, OnErr, IfErr, false};
+ghost use Rattle.std.specs.Prelude.{◌≡◌, ◌&&◌, ◌<◌, ◌≤◌, ◌^◌, ℤ, map, pos, length, unsigned_abs, IfOk, OnOk, OnErr, IfErr, false};
 ghost use Rattle.std.specs.List.{AllByRecursion, list_all};
 ghost use Rattle.std.specs.Ordering.{int_eq};
 ghost use Rattle.sq_agg.specs.Accumulators.{call_tally, is_sum_in_range};
 ghost use Rattle.sq_agg.specs.Tallies.{IsWithin, both, first_of_tally, first_of_tallies, is_no_tally, summed, tally_or_none, turned};
-ghost use Rattle.sq_ops.specs.Measures.{IsMeasurable};
+ghost use Rattle.sq_ops.specs.Measures.{IsMeasurable, weighted};
 ghost use Rattle.sq_zset.specs.declared.pair.OutsideRange.{OutsideRange as Outside};
 
 use sq_expr::Func;
-use sq_ops::{Call, count_of, sum_of, total_of};
-use sq_value::NoMemory;
+use sq_ops::{Call, count_of, count_of_row, sum_of, sum_of_row, total_of};
+use sq_value::{NoMemory, Row};
 use sq_zset::{OutsideRange, ZFault, ZSet, weight_from};
 use std::alloc::Global;
 
@@ -170,6 +170,46 @@ fn tally_of(call: &Call, z: &ZSet) -> Tally
         },
         Func::Count | Func::Min | Func::Max => Tally {
             count: count_of(z, call.arg),
+            sum: 0,
+        },
+    }
+}
+
+/// The counts and sums of the calls over one row that is there as often as the weight says.
+pub fn tallies_of_row(
+    alloc: Global,
+    calls: &[Call],
+    row: &Row,
+    weight: i64,
+) -> Result<Vec<Tally>, NoMemory>
+    requires { unsigned_abs weight ≤ 2 ^ 62 }
+    ensures ok { IfOk result (λ list. list.items ≡ map (call_tally (weighted row.now weight)) calls.now) }
+    ensures within { IfOk result (λ list. AllByRecursion IsWithin list.items) }
+{
+    let mut list = Vec::with_capacity(alloc, calls.len())?;
+    for call in calls {
+        list.push(tally_of_row(call, row, weight))?;
+    }
+    Ok(list)
+}
+
+// The count and the sum of the call over one row.
+fn tally_of_row(call: &Call, row: &Row, weight: i64) -> Tally
+    requires { unsigned_abs weight ≤ 2 ^ 62 }
+    ensures tally { result ≡ call_tally (weighted row.now weight) call.now }
+    ensures within { IsWithin result }
+{
+    match call.func {
+        Func::CountAll => Tally {
+            count: weight,
+            sum: 0,
+        },
+        Func::Sum => Tally {
+            count: count_of_row(row, weight, call.arg),
+            sum: sum_of_row(row, weight, call.arg),
+        },
+        Func::Count | Func::Min | Func::Max => Tally {
+            count: count_of_row(row, weight, call.arg),
             sum: 0,
         },
     }

@@ -16,7 +16,7 @@ use Rattle.sq_ops.specs.Aggregates.{greater, lesser}
 use Rattle.sq_expr.specs.Extremes.{greatest_or_null, least_or_null}
 
 -- ---- the lesser of two keys forgets order and repeats
-abbrev pick : {K : Type 0} → (K → K → Ordering) → K → K → K
+abbrev pub pick : {K : Type 0} → (K → K → Ordering) → K → K → K
 pick R a b = cond (is_lt (R b a)) b a
 
 module _ {K : Type 0} (R : K → K → Ordering) (o : IsTotalOrder R) (identical : IsAntisymmetric R) where
@@ -82,18 +82,18 @@ module _ {K : Type 0} (R : K → K → Ordering) (o : IsTotalOrder R) (identical
       twice b x = is (step b x) x ∙ ap (λ c. pick R c x) (is b x) ∙ pick_repeats b x ∙ sym (is b x)
 
 -- ---- values, with NULL behind all others
-abbrev is_none : Value → ℕ
+abbrev pub is_none : Value → ℕ
 is_none Null = 1
 is_none (Int n) = 0
 is_none (Text t) = 0
 
-abbrev nulls_last : Value → Value → Ordering
+abbrev pub nulls_last : Value → Value → Ordering
 nulls_last = then_cmp (on is_none nat_cmp) value_cmp
 
-nulls_last-total : IsTotalOrder nulls_last
+pub nulls_last-total : IsTotalOrder nulls_last
 nulls_last-total = then_total (on_total is_none nat_cmp_total) value_cmp-total
 
-nulls_last-antisymmetric : IsAntisymmetric nulls_last
+pub nulls_last-antisymmetric : IsAntisymmetric nulls_last
 nulls_last-antisymmetric x y e = value_cmp-antisymmetric x y (second (on is_none nat_cmp x y) (value_cmp x y) e)
   where
     second : (r s : Ordering) → ordering_then r s ≡ Equal → s ≡ Equal
@@ -101,7 +101,7 @@ nulls_last-antisymmetric x y e = value_cmp-antisymmetric x y (second (on is_none
     second Equal s e = e
     second Greater s e = absurd (cc e)
 
-lesser_is : (a b : Value) → lesser a b ≡ pick nulls_last a b
+pub lesser_is : (a b : Value) → lesser a b ≡ pick nulls_last a b
 lesser_is Null Null = refl
 lesser_is Null (Int n) = refl
 lesser_is Null (Text t) = refl
@@ -112,10 +112,10 @@ lesser_is (Text s) Null = refl
 lesser_is (Text s) (Int n) = refl
 lesser_is (Text s) (Text t) = refl
 
-flipped-antisymmetric : IsAntisymmetric (flip_args value_cmp)
+pub flipped-antisymmetric : IsAntisymmetric (flip_args value_cmp)
 flipped-antisymmetric x y e = sym (value_cmp-antisymmetric y x e)
 
-greater_is : (a b : Value) → greater a b ≡ pick (flip_args value_cmp) a b
+pub greater_is : (a b : Value) → greater a b ≡ pick (flip_args value_cmp) a b
 greater_is a b = refl
 
 -- ---- the values that are not NULL

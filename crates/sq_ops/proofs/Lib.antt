@@ -11,5 +11,6 @@ pub mod Calling
 pub mod Grouping
 pub mod Indexed
 pub mod Extremes
+pub mod Arguments
 pub mod ListTies
 pub mod Parting

@@ -1,5 +1,5 @@
 -- What the rows of a group count for, row after row.
-use Rattle.std.proofs.Common.{◌≡◌, ℕ, zero, suc, ◌+◌, ◌*◌, ◌^◌, ◌≤◌, List, [], ◌∷◌, ◌++◌, true, false, cond, take, length, ℤ, pos, negsuc, ◌+ℤ◌, ◌*ℤ◌, ◌≤ℤ◌, unsigned_abs, Some, refl, sym, ap, ap₂, subst, ◌∙◌, mul-add, take_all, get_or, lit≤, to_z, of_z, to_z-of_z, arith}
+use Rattle.std.proofs.Common.{◌≡◌, ℕ, zero, suc, ◌+◌, ◌*◌, ◌^◌, ◌≤◌, List, [], ◌∷◌, ◌++◌, Bool, true, false, cond, not, take, length, ℤ, pos, negsuc, ◌+ℤ◌, ◌*ℤ◌, ◌≤ℤ◌, unsigned_abs, Some, refl, sym, ap, ap₂, subst, ◌∙◌, mul-add, take_all, get_or, lit≤, to_z, of_z, to_z-of_z, arith}
 use Rattle.std.specs.Prelude.{slice_get, FitsSigned}
 use Rattle.std.specs.Int.{w64, w128}
 use Rattle.std.specs.List.{AllByRecursion}
@@ -12,17 +12,19 @@ use Rattle.std.proofs.Math.Nat.{mul_comm}
 use borrow.Author.Differences.{ints}
 use Rattle.sq_value.specs.declared.value.Value.{Value}
 use Rattle.sq_value.specs.Order.{row_cmp}
-use Rattle.sq_value.specs.OrderLaws.{row_cmp-total}
+use Rattle.sq_value.specs.OrderLaws.{row_cmp-total, row_cmp-antisymmetric}
 use Rattle.sq_algebra.specs.Groups.{integers, sum_over, times}
 use Rattle.sq_algebra.specs.Operators.{IsNonNegative, lin}
 use Rattle.sq_algebra.specs.ZSet.{ZSet, entries, int_sum_by, total}
-use Rattle.sq_algebra.proofs.LinearLemmas.{entry_weight, lin-entries, times_whole}
+use Rattle.sq_algebra.proofs.LinearLemmas.{entry_weight, lin-entries, lin-from_pairs, times_whole}
+use Rattle.sq_algebra.proofs.Weights.{total-from_pairs}
 use Rattle.sq_zset.specs.Collecting.{mass_of}
 use Rattle.sq_zset.proofs.RowOperators.{total-keep}
+use Rattle.sq_zset.specs.GroupLaws.{integers_are_abelian}
 use Rattle.sq_ops.specs.declared.measure.Measure.{Measure}
 use Rattle.sq_ops.specs.declared.measure.Measure.TheVariants.{Values, Numbers}
 use Rattle.sq_ops.specs.Aggregates.{count_in, has_value, number_at, sum_in}
-use Rattle.sq_ops.specs.Measures.{HasBigints, IsMeasurable, factor_of}
+use Rattle.sq_ops.specs.Measures.{HasBigints, IsMeasurable, factor_of, weighted}
 use Rattle.sq_ops.proofs.Lists.{take_more}
 
 module _ (h : List Value → ℤ) where
@@ -88,6 +90,16 @@ abs_of_sum (e ∷ es) = let rest = abs_of_sum es in let whole = sum_by-cons (λ 
 -- the count is what the rows count for by their values
 pub count_is : (column : ℕ) (z : ZSet (List Value) row_cmp) → lin integers (factor_of Values column) z ≡ count_in column z
 count_is column z = sym (total-keep (has_value column) z)
+
+-- ---- one row
+pub measure_of_row : (h : List Value → ℤ) (row : List Value) (n : ℤ) → lin integers h (weighted row n) ≡ n *ℤ h row
+measure_of_row h row n = lin-from_pairs row_cmp row_cmp-total row_cmp-antisymmetric integers integers_are_abelian h ((row, n) ∷ []) ∙ sym (measure_is h ((row, n) ∷ [])) ∙ omega (arith, ints)
+
+pub total_of_row : (row : List Value) (n : ℤ) → total (weighted row n) ≡ n
+total_of_row row n = total-from_pairs row_cmp row_cmp-total ((row, n) ∷ []) ∙ omega (arith, ints)
+
+pub count_of_one : (column : ℕ) (row : List Value) (n : ℤ) → count_in column (weighted row n) ≡ cond (has_value column row) n (pos 0)
+count_of_one column row n = sym (count_is column (weighted row n)) ∙ measure_of_row (factor_of Values column) row n ∙ elim (has_value column row) as (λ b. n *ℤ cond b (pos 1) (pos 0) ≡ cond b n (pos 0)) [ true ↦ omega (arith, ints) | false ↦ omega (arith, ints) ]
 
 module _ (z : ZSet (List Value) row_cmp) (measurable : IsMeasurable z) where
   factor_bound : (m : Measure) (column : ℕ) (row : List Value) → HasBigints row → unsigned_abs (factor_of m column row) ≤ 2 ^ 63

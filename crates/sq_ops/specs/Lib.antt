@@ -10,3 +10,4 @@ pub mod Aggregates
 pub mod WholeLaws
 pub mod Measures
 pub mod Lists
+pub mod Arguments

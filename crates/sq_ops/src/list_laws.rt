@@ -1,7 +1,7 @@
 //! What joins, distinct and aggregates do to the Z-sets of lists, each as the contract of a function that does nothing.
-ghost use Rattle.std.specs.Prelude.{◌≡◌, false, true, ℕ, List, [], ◌∷◌};
+ghost use Rattle.std.specs.Prelude.{◌≡◌, ◌≤◌, ◌+◌, ◌*◌, false, true, ℕ, List, [], ◌∷◌};
 ghost use Rattle.sq_algebra.specs.Listed.{first_of_each};
-ghost use Rattle.sq_algebra.specs.ZSet.{ZSet, of_list};
+ghost use Rattle.sq_algebra.specs.ZSet.{ZSet, entries, minus, of_list, plus};
 ghost use Rattle.sq_expr.specs.declared.expr.Func.{Func as Function};
 ghost use Rattle.sq_ops.specs.Aggregates.{call_value};
 ghost use Rattle.sq_ops.specs.Joins.{IsAdditiveInEach, joined};
@@ -12,6 +12,7 @@ ghost use Rattle.sq_ops.specs.declared.aggregate.AggSpec.{AggSpec as Aggregating
 ghost use Rattle.sq_ops.specs.declared.bilinear.Pairing.{Pairing as Joining};
 ghost use Rattle.sq_ops.specs.declared.whole.Distinct.{Distinct as Distinguishing};
 ghost use Rattle.sq_value.specs.Order.{row_cmp};
+ghost use Rattle.sq_zset.specs.Collecting.{mass_of};
 ghost use Rattle.sq_algebra.specs.Groups.{z_sets};
 
 use crate::{AggSpec, Bilinear, Call, Distinct, Index, Pairing, Whole, WholeFault};
@@ -23,6 +24,16 @@ pub fn joins_are_nested_loops<B: Bilinear>()
         → joined_lists (B.left_keys op) (B.right_keys op) (B.pairs op) rows others
         ≡ of_list row_cmp (joined_in_loops (B.left_keys op) (B.right_keys op) (B.pairs op) rows others) }
     ensures additive { (op : B) → IsAdditiveInEach (z_sets row_cmp) (z_sets row_cmp) (z_sets row_cmp) (joined (B.left_keys op) (B.right_keys op) (B.pairs op)) }
+{}
+
+/// A join gives at most one row for each pair of rows, so its mass is at most the product of the masses of its sides; and
+/// that of its change is at most what old and change, change and old, and both changes give:
+/// `|y × z| ≤ |y| |z|`, `|(y + Δy) × (z + Δz) - y × z| ≤ |y| |Δz| + |Δy| |z| + |Δy| |Δz|`.
+pub fn joins_are_bounded<B: Bilinear>()
+    ensures whole { (op : B) (y z : ZSet Row row_cmp) → mass_of (entries (joined (B.left_keys op) (B.right_keys op) (B.pairs op) y z)) ≤ mass_of (entries y) * mass_of (entries z) }
+    ensures change { (op : B) (y dy z dz : ZSet Row row_cmp)
+        → mass_of (entries (minus (joined (B.left_keys op) (B.right_keys op) (B.pairs op) (plus y dy) (plus z dz)) (joined (B.left_keys op) (B.right_keys op) (B.pairs op) y z)))
+        ≤ mass_of (entries y) * mass_of (entries dz) + mass_of (entries dy) * mass_of (entries z) + mass_of (entries dy) * mass_of (entries dz) }
 {}
 
 /// The groups may be gone through in any order: by any list of keys in which that of each row stands once. A key there

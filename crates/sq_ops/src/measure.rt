@@ -4,7 +4,7 @@ ghost use Rattle.sq_algebra.specs.Groups.{integers};
 ghost use Rattle.sq_algebra.specs.Operators.{lin};
 ghost use Rattle.sq_algebra.specs.ZSet.{total};
 ghost use Rattle.sq_ops.specs.Aggregates.{count_in, number_at, sum_in};
-ghost use Rattle.sq_ops.specs.Measures.{IsMeasurable, factor_of};
+ghost use Rattle.sq_ops.specs.Measures.{IsMeasurable, factor_of, weighted};
 
 use crate::columns::is_null_at;
 use sq_value::{Row, Value};
@@ -43,6 +43,24 @@ pub fn sum_of(z: &ZSet, column: u32) -> i128
     measured(z, Measure::Numbers, column)
 }
 
+/// How many rows have a value in the column, if the row is there as often as the weight says and no other is. Takes no
+/// memory.
+pub fn count_of_row(row: &Row, weight: i64, column: u32) -> i64
+    ensures { result ≡ count_in column (weighted row.now weight) }
+{
+    if is_null_at(row, column) { 0 } else { weight }
+}
+
+/// The sum of the numbers in the column, if the row is there as often as the weight says and no other is. Takes no
+/// memory.
+pub fn sum_of_row(row: &Row, weight: i64, column: u32) -> i128
+    requires { unsigned_abs weight ≤ 2 ^ 62 }
+    ensures sum { result ≡ sum_in column (weighted row.now weight) }
+    ensures bound { unsigned_abs result ≤ 2 ^ 125 }
+{
+    product(row, weight, Measure::Numbers, column)
+}
+
 // What all rows count for, each as often as its weight says.
 fn measured(z: &ZSet, measure: Measure, column: u32) -> i128
     requires { IsMeasurable z.now }
@@ -60,7 +78,7 @@ fn measured(z: &ZSet, measure: Measure, column: u32) -> i128
 fn product(row: &Row, weight: i64, measure: Measure, column: u32) -> i128
     requires { unsigned_abs weight ≤ 2 ^ 62 }
     ensures value { result ≡ weight *ℤ factor_of measure column row.now }
-    ensures bound { unsigned_abs result ≤ 2 ^ 126 }
+    ensures bound { unsigned_abs result ≤ 2 ^ 125 }
 {
     i128::from(weight) * i128::from(factor(row, measure, column))
 }

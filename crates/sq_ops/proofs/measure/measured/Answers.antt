@@ -9,7 +9,7 @@ use Rattle.sq_ops.proofs.measure.measured.Goals as goal
 
 pub overflow_add-sum : goal.overflow_add-sum
 overflow_add-sum c =
-    let back : to_z w128 (of_z w128 c.product-sum.result) ≡ c.product-sum.result = kept_128 c.product-sum.result (2 ^ 126) c.product-sum.ensures.bound (lit≤ tt) in
+    let back : to_z w128 (of_z w128 c.product-sum.result) ≡ c.product-sum.result = kept_128 c.product-sum.result (2 ^ 125) c.product-sum.ensures.bound (lit≤ tt) in
     let value : c.product-sum.result ≡ c.at-weight.result.1 *ℤ factor_of c.args.measure c.args.column c.at-weight.result.0.now =
     c.product-sum.ensures.value ∙ ap (λ w. w *ℤ factor_of c.args.measure c.args.column c.at-weight.result.0.now) (kept c.at-weight.result.1 c.at-weight.ensures.in_range) in
     subst (λ x. FitsSigned w128 (to_z w128 c.loop-i.sum-bits +ℤ x)) (sym back)
@@ -17,7 +17,7 @@ overflow_add-sum c =
 
 pub loop-i-preserved : goal.loop-i-preserved
 loop-i-preserved c =
-    let back : to_z w128 (of_z w128 c.product-sum.result) ≡ c.product-sum.result = kept_128 c.product-sum.result (2 ^ 126) c.product-sum.ensures.bound (lit≤ tt) in
+    let back : to_z w128 (of_z w128 c.product-sum.result) ≡ c.product-sum.result = kept_128 c.product-sum.result (2 ^ 125) c.product-sum.ensures.bound (lit≤ tt) in
     let value : c.product-sum.result ≡ c.at-weight.result.1 *ℤ factor_of c.args.measure c.args.column c.at-weight.result.0.now =
     c.product-sum.ensures.value ∙ ap (λ w. w *ℤ factor_of c.args.measure c.args.column c.at-weight.result.0.now) (kept c.at-weight.result.1 c.at-weight.ensures.in_range) in
     ap (λ x. to_z w128 (of_z w128 (to_z w128 c.loop-i.sum-bits +ℤ x))) back
