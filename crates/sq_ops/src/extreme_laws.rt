@@ -1,5 +1,5 @@
 //! How MIN and MAX of a group are told from the arguments that are kept of it, as contracts of functions that do nothing.
-ghost use Rattle.std.specs.Prelude.{◌≡◌, ℕ, ℤ, pos, List};
+ghost use Rattle.std.specs.Prelude.{◌≡◌, ℕ, pos};
 ghost use Rattle.sq_algebra.specs.Groups.{IsAdditive, z_sets};
 ghost use Rattle.sq_algebra.specs.Operators.{IsNonNegative};
 ghost use Rattle.sq_algebra.specs.ZSet.{ZSet, zero};

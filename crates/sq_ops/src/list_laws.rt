@@ -1,10 +1,10 @@
 //! What joins, distinct and aggregates do to the Z-sets of lists, each as the contract of a function that does nothing.
-ghost use Rattle.std.specs.Prelude.{◌≡◌, ◌≤◌, ◌+◌, ◌*◌, false, true, ℕ, List, [], ◌∷◌};
+ghost use Rattle.std.specs.Prelude.{◌≡◌, ◌≤◌, ◌*◌, false, true, ℕ, List, [], ◌∷◌};
 ghost use Rattle.sq_algebra.specs.Listed.{first_of_each};
-ghost use Rattle.sq_algebra.specs.ZSet.{ZSet, entries, minus, of_list, plus};
+ghost use Rattle.sq_algebra.specs.ZSet.{ZSet, entries, of_list};
 ghost use Rattle.sq_expr.specs.declared.expr.Func.{Func as Function};
 ghost use Rattle.sq_ops.specs.Aggregates.{call_value};
-ghost use Rattle.sq_ops.specs.Joins.{IsAdditiveInEach, joined};
+ghost use Rattle.sq_ops.specs.Joins.{IsAdditiveInEach, cross_masses, joined, rise_of_join};
 ghost use Rattle.sq_ops.specs.Lists.{NamesEachOnce, joined_in_loops, joined_lists, joined_pairs, list_value, row_of_list, rows_by_keys, rows_of_groups};
 ghost use Rattle.sq_ops.specs.Rows.{Row};
 ghost use Rattle.sq_ops.specs.Wholes.{IsNothingForNone, sum_of_parts};
@@ -31,9 +31,7 @@ pub fn joins_are_nested_loops<B: Bilinear>()
 /// `|y × z| ≤ |y| |z|`, `|(y + Δy) × (z + Δz) - y × z| ≤ |y| |Δz| + |Δy| |z| + |Δy| |Δz|`.
 pub fn joins_are_bounded<B: Bilinear>()
     ensures whole { (op : B) (y z : ZSet Row row_cmp) → mass_of (entries (joined (B.left_keys op) (B.right_keys op) (B.pairs op) y z)) ≤ mass_of (entries y) * mass_of (entries z) }
-    ensures change { (op : B) (y dy z dz : ZSet Row row_cmp)
-        → mass_of (entries (minus (joined (B.left_keys op) (B.right_keys op) (B.pairs op) (plus y dy) (plus z dz)) (joined (B.left_keys op) (B.right_keys op) (B.pairs op) y z)))
-        ≤ mass_of (entries y) * mass_of (entries dz) + mass_of (entries dy) * mass_of (entries z) + mass_of (entries dy) * mass_of (entries dz) }
+    ensures change { (op : B) (y dy z dz : ZSet Row row_cmp) → mass_of (entries (rise_of_join (B.left_keys op) (B.right_keys op) (B.pairs op) y dy z dz)) ≤ cross_masses y dy z dz }
 {}
 
 /// The groups may be gone through in any order: by any list of keys in which that of each row stands once. A key there

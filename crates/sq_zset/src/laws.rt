@@ -10,7 +10,7 @@ ghost use Rattle.sq_algebra.specs.Listed.{count, changed, first_of_each, among, 
 ghost use Rattle.sq_algebra.specs.Operators.{IsNonNegative, image, keep, distinct, product, meet};
 ghost use Rattle.sq_algebra.specs.ZSet.{ZSet as Weighted, entries, from_pairs, zero, single, of_list, weight, total, plus, negate, minus};
 ghost use Rattle.sq_zset.specs.Collecting.{mass_of};
-ghost use Rattle.sq_zset.specs.Loops.{nested_loops};
+ghost use Rattle.sq_zset.specs.Loops.{GivesAtMostOne, nested_loops};
 
 use crate::{Group, OutsideRange, Pair, ZFault, ZSet};
 use sq_algebra::changes_are_differences;
@@ -60,7 +60,7 @@ pub fn masses_of_rows()
     ensures part { (p : List Datum → Bool) (z : Weighted (List Datum) row_cmp) → mass_of (entries (keep p z)) ≤ mass_of (entries z) }
     ensures pairs { (ps : List (List Datum × ℤ)) → mass_of (entries (from_pairs row_cmp ps)) ≤ mass_of ps }
     ensures image { (f : List Datum → List (List Datum)) → ((row : List Datum) → length (f row) ≤ 1) → (z : Weighted (List Datum) row_cmp) → mass_of (entries (image row_cmp f z)) ≤ mass_of (entries z) }
-    ensures product { (f : List Datum → List Datum → List (List Datum)) → ((row other : List Datum) → length (f row other) ≤ 1)
+    ensures product { (f : List Datum → List Datum → List (List Datum)) → GivesAtMostOne f
         → (y z : Weighted (List Datum) row_cmp) → mass_of (entries (product row_cmp f y z)) ≤ mass_of (entries y) * mass_of (entries z) }
 {}
 
