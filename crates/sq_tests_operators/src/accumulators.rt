@@ -2,7 +2,7 @@
 ghost use Rattle.std.specs.Prelude.{◌≡◌, None};
 
 use crate::aggregates::by_first;
-use crate::rows::{LIMIT, SUM_LIMIT, are_of_kinds, zset_of_two};
+use crate::rows::{LIMIT, SUM_LIMIT, are_of_kinds, row_of, zset_of_two};
 use sq_agg::Acc;
 use sq_expr::{Func, Kind};
 use sq_ops::AggSpec;
@@ -37,21 +37,37 @@ fn acc_on(alloc: Global, spec: &AggSpec, z: &ZSet) -> Option<Result<Acc, NoMemor
 }
 
 // The accumulator of one call over a row with this number, and zero where that can't be.
-fn acc_of(alloc: Global, func: Func, number: Option<i64>, weight: i64) -> Result<Acc, Fail> {
-    let spec = by_first(alloc, func)?;
+fn acc_of(alloc: Global, func: Func, number: Option<i64>, weight: i64) -> Result<Acc, ZFault> {
     let z = zset_of_two(alloc, &[(1, number, weight)])?;
+    let spec = by_first(alloc, func)?;
     match acc_on(alloc, &spec, &z) {
         Some(acc) => Ok(acc?),
         None => Ok(Group::zero(alloc)),
     }
 }
 
+// The same, of the row itself, if the weight is in range.
+fn acc_of_row(alloc: Global, func: Func, number: Option<i64>, weight: i64) -> Result<Acc, ZFault> {
+    let row = row_of(alloc, &[Some(1), number])?;
+    let spec = by_first(alloc, func)?;
+    if weight < -LIMIT || LIMIT < weight {
+        return Ok(Group::zero(alloc));
+    }
+    Ok(Acc::of_row(alloc, &spec, &row, weight)?)
+}
+
+// The accumulators of one SUM over rows with these numbers and weights, added up one after the other.
+fn sum_of(alloc: Global, rows: &[(Option<i64>, i64)]) -> Result<Acc, ZFault> {
+    let mut sum = Group::zero(alloc);
+    for row in rows {
+        sum = plus(alloc, &sum, &acc_of(alloc, Func::Sum, row.0, row.1)?)?;
+    }
+    Ok(sum)
+}
+
 fn check_numbers(rt: &impl Abort, acc: &Acc, rows: i64, count: i64, sum: i128) {
-    assert_eq!(rt; acc.rows(), rows);
-    assert_eq!(rt; acc.count(0), count);
-    assert_eq!(rt; acc.sum(0), sum);
-    assert_eq!(rt; acc.count(1), 0);
-    assert_eq!(rt; acc.sum(1), 0);
+    assert_eq!(rt; (acc.rows(), acc.count(0), acc.sum(0)), (rows, count, sum));
+    assert_eq!(rt; (acc.count(1), acc.sum(1)), (0, 0));
 }
 
 fn check_outside(rt: &impl Abort, answer: Result<Acc, ZFault>, number: i128) {
@@ -61,68 +77,91 @@ fn check_outside(rt: &impl Abort, answer: Result<Acc, ZFault>, number: i128) {
     }
 }
 
-#[test]
-fn calls_count_and_sum_their_values(rt: HostRuntime) -> Result<(), Fail> {
-    let alloc = rt.alloc();
-    check_numbers(&rt, &acc_of(alloc, Func::Sum, Some(-7), 3)?, 3, 3, -21);
-    check_numbers(&rt, &acc_of(alloc, Func::Sum, None, -3)?, -3, 0, 0);
-    check_numbers(&rt, &acc_of(alloc, Func::CountAll, None, 3)?, 3, 3, 0);
-    check_numbers(&rt, &acc_of(alloc, Func::Count, Some(9), 3)?, 3, 3, 0);
-    check_numbers(&rt, &acc_of(alloc, Func::Min, Some(9), 3)?, 3, 3, 0);
+// The number of rows, the count and the sum of a call over a row with this number and weight.
+fn check_call(
+    rt: &impl Abort,
+    alloc: Global,
+    func: Func,
+    (number, weight): (Option<i64>, i64),
+    (rows, count, sum): (i64, i64, i128),
+) -> Result<(), ZFault> {
+    check_numbers(rt, &acc_of(alloc, func, number, weight)?, rows, count, sum);
+    check_numbers(
+        rt,
+        &acc_of_row(alloc, func, number, weight)?,
+        rows,
+        count,
+        sum,
+    );
     Ok(())
+}
+
+#[test]
+fn calls_count_and_sum_their_values(rt: HostRuntime) -> Result<(), ZFault> {
+    let alloc = rt.alloc();
+    check_call(&rt, alloc, Func::Sum, (Some(-7), 3), (3, 3, -21))?;
+    check_call(&rt, alloc, Func::Sum, (None, -3), (-3, 0, 0))?;
+    check_call(&rt, alloc, Func::CountAll, (None, 3), (3, 3, 0))?;
+    check_call(&rt, alloc, Func::Count, (Some(9), 3), (3, 3, 0))?;
+    check_call(&rt, alloc, Func::Min, (Some(9), 3), (3, 3, 0))
+}
+
+// The negation of a copy.
+fn turned_copy(alloc: Global, acc: &Acc) -> Result<Acc, NoMemory> {
+    let _ = acc.rows();
+    let copy = acc.clone_group(alloc)?;
+    copy.negate(alloc)
 }
 
 #[test]
 fn an_accumulator_less_itself_is_zero(rt: HostRuntime) -> Result<(), Fail> {
     let alloc = rt.alloc();
     let acc = acc_of(alloc, Func::Sum, Some(i64::MAX), LIMIT)?;
-    let _ = acc.rows();
-    let copy = acc.clone_group(alloc)?;
-    let turned = copy.negate(alloc)?;
-    check_numbers(
-        &rt,
-        &turned,
-        -LIMIT,
-        -LIMIT,
-        -9223372036854775807 * SUM_LIMIT,
-    );
     assert!(&rt; !acc.is_zero());
+    let turned = turned_copy(alloc, &acc)?;
+    let sum = -9223372036854775807 * SUM_LIMIT;
+    check_numbers(&rt, &turned, -LIMIT, -LIMIT, sum);
     assert!(&rt; plus(alloc, &acc, &turned)?.is_zero());
+    Ok(())
+}
+
+#[test]
+fn zero_adds_nothing(rt: HostRuntime) -> Result<(), Fail> {
+    let alloc = rt.alloc();
     let none: Acc = Group::zero(alloc);
     assert!(&rt; none.is_zero());
+    let sum = 9223372036854775807 * SUM_LIMIT;
     check_numbers(
         &rt,
-        &plus(alloc, &none, &acc)?,
+        &sum_of(alloc, &[(Some(i64::MAX), LIMIT)])?,
         LIMIT,
         LIMIT,
-        9223372036854775807 * SUM_LIMIT,
+        sum,
     );
     Ok(())
 }
 
 // The number of rows is told before a count, and a count before its sum.
 #[test]
-fn the_first_number_outside_is_told(rt: HostRuntime) -> Result<(), Fail> {
+fn the_first_number_outside_is_told(rt: HostRuntime) {
     let alloc = rt.alloc();
-    let most = acc_of(alloc, Func::Sum, Some(i64::MIN), LIMIT)?;
-    check_outside(&rt, plus(alloc, &most, &most), 2 * SUM_LIMIT);
-    let one = acc_of(alloc, Func::Sum, Some(1), 1)?;
-    check_outside(&rt, plus(alloc, &one, &most), SUM_LIMIT + 1);
-    let nulls = acc_of(alloc, Func::Sum, None, -LIMIT)?;
-    let counted = plus(alloc, &most, &nulls)?;
-    check_outside(&rt, plus(alloc, &counted, &most), 2 * SUM_LIMIT);
-    let zeros = acc_of(alloc, Func::Sum, Some(0), -LIMIT)?;
-    let summed = plus(alloc, &most, &zeros)?;
-    check_outside(
-        &rt,
-        plus(alloc, &summed, &most),
-        -85070591730234615865843651857942052864,
-    );
-    let above = acc_of(alloc, Func::Sum, Some(i64::MAX), LIMIT)?;
-    let summed = plus(alloc, &above, &zeros)?;
+    let most = (Some(i64::MIN), LIMIT);
+    check_outside(&rt, sum_of(alloc, &[most, most]), 2 * SUM_LIMIT);
+    check_outside(&rt, sum_of(alloc, &[(Some(1), 1), most]), SUM_LIMIT + 1);
+    let nulls = (None, -LIMIT);
+    check_outside(&rt, sum_of(alloc, &[most, nulls, most]), 2 * SUM_LIMIT);
+    let zeros = (Some(0), -LIMIT);
+    let below = -85070591730234615865843651857942052864;
+    check_outside(&rt, sum_of(alloc, &[most, zeros, most]), below);
+}
+
+#[test]
+fn sums_reach_beyond_64_bits(rt: HostRuntime) -> Result<(), ZFault> {
+    let most = (Some(i64::MAX), LIMIT);
+    let sum = sum_of(rt.alloc(), &[most, (Some(0), -LIMIT), most])?;
     check_numbers(
         &rt,
-        &plus(alloc, &summed, &above)?,
+        &sum,
         LIMIT,
         LIMIT,
         85070591730234615856620279821087277056,

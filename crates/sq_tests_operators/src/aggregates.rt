@@ -4,6 +4,7 @@ use crate::rows::{are_of_kinds, check_row, has_no_weight_below_zero, row_of, zse
 use sq_agg::agg_whole;
 use sq_expr::{Func, Kind};
 use sq_ops::{AggSpec, Call, WholeFault};
+use sq_value::NoMemory;
 use sq_zset::ZSet;
 use sqlite_items::Items;
 use std::alloc::Global;
@@ -25,7 +26,7 @@ fn agg_on(alloc: Global, spec: &AggSpec, z: &ZSet) -> Option<Result<ZSet, WholeF
 }
 
 // By the first column, this call on the second.
-pub fn by_first(alloc: Global, func: Func) -> Result<AggSpec, Fail> {
+pub fn by_first(alloc: Global, func: Func) -> Result<AggSpec, NoMemory> {
     Ok(AggSpec {
         group: Items::from_slice(alloc, &[0])?,
         calls: Items::from_slice(alloc, &[Call { func, arg: 1 }])?,
@@ -66,104 +67,105 @@ fn fault_of(answer: Option<Result<ZSet, WholeFault>>) -> Option<WholeFault> {
     }
 }
 
+// The value of the call over the rows of the group 1, among these many groups.
 fn check_call(
     rt: &impl Abort,
     alloc: Global,
-    z: &ZSet,
+    items: &[(i64, Option<i64>, i64)],
     func: Func,
-    expected: Option<i64>,
+    (groups, expected): (usize, Option<i64>),
 ) -> Result<(), Fail> {
+    let z = zset_of_two(alloc, items)?;
     let spec = by_first(alloc, func)?;
-    check_answer(rt, alloc, agg_on(alloc, &spec, z), 2, &[Some(1), expected])
+    let answer = agg_on(alloc, &spec, &z);
+    check_answer(rt, alloc, answer, groups, &[Some(1), expected])
 }
 
 #[test]
 fn rows_count_as_often_as_they_weigh(rt: HostRuntime) -> Result<(), Fail> {
     let alloc = rt.alloc();
-    let z = zset_of_two(
-        alloc,
-        &[
-            (1, Some(4), 2),
-            (1, Some(-3), 1),
-            (1, None, 5),
-            (2, None, 1),
-        ],
-    )?;
-    check_call(&rt, alloc, &z, Func::CountAll, Some(8))?;
-    check_call(&rt, alloc, &z, Func::Count, Some(3))?;
-    check_call(&rt, alloc, &z, Func::Sum, Some(5))?;
-    check_call(&rt, alloc, &z, Func::Min, Some(-3))?;
-    check_call(&rt, alloc, &z, Func::Max, Some(4))?;
-    let twice = zset_of_two(alloc, &[(1, Some(4), 2)])?;
-    let spec = by_first(alloc, Func::Sum)?;
-    check_answer(
-        &rt,
-        alloc,
-        agg_on(alloc, &spec, &twice),
-        1,
-        &[Some(1), Some(8)],
-    )
+    let items = [
+        (1, Some(4), 2),
+        (1, Some(-3), 1),
+        (1, None, 5),
+        (2, None, 1),
+    ];
+    check_call(&rt, alloc, &items, Func::CountAll, (2, Some(8)))?;
+    check_call(&rt, alloc, &items, Func::Count, (2, Some(3)))?;
+    check_call(&rt, alloc, &items, Func::Sum, (2, Some(5)))?;
+    check_call(&rt, alloc, &items, Func::Min, (2, Some(-3)))?;
+    check_call(&rt, alloc, &items, Func::Max, (2, Some(4)))?;
+    check_call(&rt, alloc, &[(1, Some(4), 2)], Func::Sum, (1, Some(8)))
 }
 
 #[test]
 fn no_value_gives_null(rt: HostRuntime) -> Result<(), Fail> {
     let alloc = rt.alloc();
-    let z = zset_of_two(alloc, &[(1, None, 2), (2, Some(1), 1)])?;
-    check_call(&rt, alloc, &z, Func::Count, Some(0))?;
-    check_call(&rt, alloc, &z, Func::Sum, None)?;
-    check_call(&rt, alloc, &z, Func::Min, None)?;
-    check_call(&rt, alloc, &z, Func::Max, None)
+    let items = [(1, None, 2), (2, Some(1), 1)];
+    check_call(&rt, alloc, &items, Func::Count, (2, Some(0)))?;
+    check_call(&rt, alloc, &items, Func::Sum, (2, None))?;
+    check_call(&rt, alloc, &items, Func::Min, (2, None))?;
+    check_call(&rt, alloc, &items, Func::Max, (2, None))
+}
+
+// The number of all rows and the SUM of the first column, over all rows.
+fn count_and_sum(alloc: Global) -> Result<AggSpec, NoMemory> {
+    let count = Call {
+        func: Func::CountAll,
+        arg: 0,
+    };
+    let sum = Call {
+        func: Func::Sum,
+        arg: 0,
+    };
+    Ok(AggSpec {
+        group: Items::new(alloc),
+        calls: Items::from_slice(alloc, &[count, sum])?,
+        global: true,
+    })
 }
 
 #[test]
 fn a_global_aggregate_shows_a_row_over_no_rows(rt: HostRuntime) -> Result<(), Fail> {
     let alloc = rt.alloc();
-    let spec = AggSpec {
-        group: Items::new(alloc),
-        calls: Items::from_slice(
-            alloc,
-            &[
-                Call {
-                    func: Func::CountAll,
-                    arg: 0,
-                },
-                Call {
-                    func: Func::Sum,
-                    arg: 0,
-                },
-            ],
-        )?,
-        global: true,
-    };
-    check_answer(
-        &rt,
-        alloc,
-        agg_on(alloc, &spec, &ZSet::empty(alloc)),
-        1,
-        &[Some(0), None],
-    )
+    let spec = count_and_sum(alloc)?;
+    let answer = agg_on(alloc, &spec, &ZSet::empty(alloc));
+    check_answer(&rt, alloc, answer, 1, &[Some(0), None])
+}
+
+// The fault of the SUM by the first column.
+fn sum_fault(alloc: Global, items: &[(i64, Option<i64>, i64)]) -> Result<Option<WholeFault>, Fail> {
+    let z = zset_of_two(alloc, items)?;
+    let spec = by_first(alloc, Func::Sum)?;
+    Ok(fault_of(agg_on(alloc, &spec, &z)))
+}
+
+// The fault names the group with this key, and this sum.
+fn check_fault(
+    rt: &impl Abort,
+    alloc: Global,
+    fault: Option<WholeFault>,
+    group: i64,
+    sum: i128,
+) -> Result<(), Fail> {
+    let key = row_of(alloc, &[Some(group)])?;
+    match fault {
+        Some(fault) => assert!(rt; fault == WholeFault::Sum { key, sum }),
+        None => assert!(rt; false, "no sum outside"),
+    }
+    Ok(())
 }
 
 #[test]
 fn the_first_sum_outside_bigint_is_reported(rt: HostRuntime) -> Result<(), Fail> {
     let alloc = rt.alloc();
-    let spec = by_first(alloc, Func::Sum)?;
-    let z = zset_of_two(
-        alloc,
-        &[
-            (1, Some(i64::MAX), 2),
-            (2, Some(i64::MIN), 3),
-            (0, Some(1), 1),
-        ],
-    )?;
-    let expected = WholeFault::Sum {
-        key: row_of(alloc, &[Some(1)])?,
-        sum: 18446744073709551614,
-    };
-    match fault_of(agg_on(alloc, &spec, &z)) {
-        Some(fault) => assert!(&rt; fault == expected),
-        None => assert!(&rt; false, "no sum outside"),
-    }
-    let most = zset_of_two(alloc, &[(1, Some(i64::MAX), 1), (2, None, 1)])?;
-    check_call(&rt, alloc, &most, Func::Sum, Some(i64::MAX))
+    let items = [
+        (1, Some(i64::MAX), 2),
+        (2, Some(i64::MIN), 3),
+        (0, Some(1), 1),
+    ];
+    let fault = sum_fault(alloc, &items)?;
+    check_fault(&rt, alloc, fault, 1, 18446744073709551614)?;
+    let most = [(1, Some(i64::MAX), 1), (2, None, 1)];
+    check_call(&rt, alloc, &most, Func::Sum, (2, Some(i64::MAX)))
 }

@@ -4,21 +4,28 @@ use crate::aggregates::by_first;
 use crate::joins::both_columns;
 use crate::rows::{row_of, zset_of};
 use sq_expr::{Cond, Expr, Func};
-use sq_ops::{Distinct, Keep, Pad, Pairing, Project};
+use sq_ops::{AggSpec, Distinct, Keep, Pad, Pairing, Project};
+use sq_value::Row;
 use sq_zset::ZSet;
 use sqlite_items::Items;
 use std::alloc::Global;
 use std::process::Abort;
 use std::test::Fail;
 
+// A copy of the aggregate is the same.
+fn check_spec(rt: &impl Abort, alloc: Global, spec: &AggSpec) -> Result<(), Fail> {
+    let copy = spec.clone_spec(alloc)?;
+    assert!(rt; copy.is_same(spec));
+    Ok(())
+}
+
 #[test]
 fn a_copied_aggregate_is_the_same(rt: HostRuntime) -> Result<(), Fail> {
     let alloc = rt.alloc();
     let sum = by_first(alloc, Func::Sum)?;
-    let copy = sum.clone_spec(alloc)?;
-    assert!(&rt; copy.is_same(&sum));
+    check_spec(&rt, alloc, &sum)?;
     let count = by_first(alloc, Func::Count)?;
-    assert!(&rt; !copy.is_same(&count));
+    assert!(&rt; !count.is_same(&sum));
     Ok(())
 }
 
@@ -75,12 +82,28 @@ fn a_copied_pairing_is_the_same(rt: HostRuntime) -> Result<(), Fail> {
 #[test]
 fn entries_are_handed_over(rt: HostRuntime) -> Result<(), Fail> {
     let alloc = rt.alloc();
+    let row = row_of(alloc, &[Some(1)])?;
     let entries = zset_of(alloc, &[(2, 5), (1, -3)])?.into_entries();
     assert_eq!(&rt; entries.len(), 2);
-    assert!(&rt; entries[0] == (row_of(alloc, &[Some(1)])?, -3));
+    assert!(&rt; entries[0] == (row, -3));
+    Ok(())
+}
+
+// The same row twice.
+fn two_nulls(alloc: Global) -> Result<Vec<Row>, Fail> {
+    let mut rows = Vec::new(alloc);
+    for _ in 0..2 {
+        rows.push(row_of(alloc, &[None])?)?;
+    }
+    Ok(rows)
+}
+
+#[test]
+fn rows_are_counted(rt: HostRuntime) -> Result<(), Fail> {
+    let alloc = rt.alloc();
     let one = ZSet::of_row(alloc, row_of(alloc, &[None])?)?;
     assert_eq!(&rt; one.len(), 1);
-    let rows = vec![in alloc; row_of(alloc, &[None])?, row_of(alloc, &[None])?]?;
-    assert_eq!(&rt; ZSet::of_rows(alloc, rows)?.total(), 2);
+    let two = ZSet::of_rows(alloc, two_nulls(alloc)?)?;
+    assert_eq!(&rt; two.total(), 2);
     Ok(())
 }

@@ -1,6 +1,7 @@
 //! The calls of a `Whole` through its bound, at the types of sq_ops and at one of a test's own.
 ghost use Rattle.sq_ops.specs.Fits.{FitsRow};
 
+use crate::aggregates::by_first;
 use crate::rows::{check_row, row_of};
 use sq_expr::{Func, Kind, is_of_kinds};
 use sq_ops::{AggSpec, Call, Distinct, Whole, WholeFault};
@@ -76,32 +77,42 @@ fn agg_part(alloc: Global, spec: &AggSpec, row: Row) -> Option<Result<ZSet, Whol
     }
 }
 
-#[test]
-fn an_aggregate_gives_the_row_of_a_group(rt: HostRuntime) -> Result<(), Fail> {
-    let alloc = rt.alloc();
+// The part of the row (1, 4) alone is this row.
+fn check_agg(
+    rt: &impl Abort,
+    alloc: Global,
+    spec: &AggSpec,
+    numbers: &[Option<i64>],
+) -> Result<(), Fail> {
+    let row = row_of(alloc, &[Some(1), Some(4)])?;
+    check_part(rt, alloc, agg_part(alloc, spec, row), numbers)
+}
+
+// The SUM of the second column over all rows.
+fn sum_of_all(alloc: Global) -> Result<AggSpec, NoMemory> {
     let sum = Call {
         func: Func::Sum,
         arg: 1,
     };
-    let by_first = AggSpec {
-        group: Items::from_slice(alloc, &[0])?,
-        calls: Items::from_slice(alloc, &[sum])?,
-        global: false,
-    };
-    let row = row_of(alloc, &[Some(1), Some(4)])?;
-    check_part(
-        &rt,
-        alloc,
-        agg_part(alloc, &by_first, row),
-        &[Some(1), Some(4)],
-    )?;
-    let of_all = AggSpec {
+    Ok(AggSpec {
         group: Items::new(alloc),
         calls: Items::from_slice(alloc, &[sum])?,
         global: true,
-    };
-    let row = row_of(alloc, &[Some(1), Some(4)])?;
-    check_part(&rt, alloc, agg_part(alloc, &of_all, row), &[Some(4)])
+    })
+}
+
+#[test]
+fn an_aggregate_gives_the_row_of_a_group(rt: HostRuntime) -> Result<(), Fail> {
+    let alloc = rt.alloc();
+    let spec = by_first(alloc, Func::Sum)?;
+    check_agg(&rt, alloc, &spec, &[Some(1), Some(4)])
+}
+
+#[test]
+fn a_global_aggregate_gives_one_row(rt: HostRuntime) -> Result<(), Fail> {
+    let alloc = rt.alloc();
+    let spec = sum_of_all(alloc)?;
+    check_agg(&rt, alloc, &spec, &[Some(4)])
 }
 
 // Gives each row as it is, by a key that all rows share.

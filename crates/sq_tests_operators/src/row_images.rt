@@ -82,45 +82,63 @@ fn list_of_one(alloc: Global) -> Result<Vec<Row>, Fail> {
     Ok(vec![in alloc; first]?)
 }
 
-// The list is the row (9) and then, where there is one, this image.
+// The list has a second row, and it is this image.
+fn check_image(
+    rt: &impl Abort,
+    alloc: Global,
+    list: &[Row],
+    image: &[Option<i64>],
+) -> Result<(), Fail> {
+    let row = row_of(alloc, image)?;
+    assert_eq!(rt; list.len(), 2);
+    assert!(rt; list.get(1) == Some(&row), "{image:?}");
+    Ok(())
+}
+
+// The list is the row (9) and then, if there is one, this image.
 fn check_list(
     rt: &impl Abort,
     alloc: Global,
     list: &[Row],
     image: Option<&[Option<i64>]>,
 ) -> Result<(), Fail> {
-    assert!(rt; list.first() == Some(&row_of(alloc, &[Some(9)])?));
+    let first = row_of(alloc, &[Some(9)])?;
+    assert!(rt; list.first() == Some(&first));
     match image {
-        Some(image) => {
-            assert_eq!(rt; list.len(), 2);
-            assert!(rt; list.get(1) == Some(&row_of(alloc, image)?), "{image:?}");
+        Some(image) => check_image(rt, alloc, list, image),
+        None => {
+            assert_eq!(rt; list.len(), 1);
+            Ok(())
         }
-        None => assert_eq!(rt; list.len(), 1),
     }
-    Ok(())
 }
 
-#[test]
-fn rows_are_kept_where_the_condition_is_true(rt: HostRuntime) -> Result<(), Fail> {
-    let alloc = rt.alloc();
-    let op = Keep {
+// Keeps what is above 1.
+fn above_one() -> Keep {
+    Keep {
         cond: Cond::Compare {
             cmp: Cmp::Gt,
             left: Expr::Column(0),
             right: Expr::Number(1),
         },
-    };
-    for (number, kept) in [(None, false), (Some(1), false), (Some(2), true)] {
-        let mut list = list_of_one(alloc)?;
-        let row = row_of(alloc, &[number])?;
-        assert_eq!(rt;
-            keep_on(alloc, &op, &row, &[Kind::Bigint], &mut list),
-            Some(Ok(()))
-        );
-        let image = [number];
-        check_list(&rt, alloc, &list, if kept { Some(&image) } else { None })?;
     }
-    Ok(())
+}
+
+fn check_kept(rt: &impl Abort, alloc: Global, number: Option<i64>, kept: bool) -> Result<(), Fail> {
+    let row = row_of(alloc, &[number])?;
+    let mut list = list_of_one(alloc)?;
+    let answer = keep_on(alloc, &above_one(), &row, &[Kind::Bigint], &mut list);
+    assert_eq!(rt; answer, Some(Ok(())));
+    let image = [number];
+    check_list(rt, alloc, &list, if kept { Some(&image) } else { None })
+}
+
+#[test]
+fn rows_are_kept_where_the_condition_is_true(rt: HostRuntime) -> Result<(), Fail> {
+    let alloc = rt.alloc();
+    check_kept(&rt, alloc, None, false)?;
+    check_kept(&rt, alloc, Some(1), false)?;
+    check_kept(&rt, alloc, Some(2), true)
 }
 
 // Two items: the second column, and the first with its sign turned.
@@ -131,26 +149,28 @@ fn swapped(alloc: Global) -> Result<Project, Fail> {
     Ok(Project { items })
 }
 
+fn check_swapped(
+    rt: &impl Abort,
+    alloc: Global,
+    numbers: &[Option<i64>],
+    image: &[Option<i64>],
+) -> Result<(), Fail> {
+    let row = row_of(alloc, numbers)?;
+    let mut list = list_of_one(alloc)?;
+    let op = swapped(alloc)?;
+    let kinds = [Kind::Bigint, Kind::Bigint];
+    let answer = project_on(alloc, &op, &row, &kinds, &mut list);
+    assert_eq!(rt; answer, Some(Ok(())));
+    check_list(rt, alloc, &list, Some(image))
+}
+
 #[test]
 fn items_are_projected(rt: HostRuntime) -> Result<(), Fail> {
     let alloc = rt.alloc();
-    let kinds = [Kind::Bigint, Kind::Bigint];
-    let op = swapped(alloc)?;
-    let rows = [
-        ([Some(5), None], [None, Some(-5)]),
-        ([None, Some(7)], [Some(7), None]),
-        ([Some(i64::MAX), Some(1)], [Some(1), Some(-i64::MAX)]),
-    ];
-    for (numbers, image) in rows {
-        let mut list = list_of_one(alloc)?;
-        let row = row_of(alloc, &numbers)?;
-        assert_eq!(rt;
-            project_on(alloc, &op, &row, &kinds, &mut list),
-            Some(Ok(()))
-        );
-        check_list(&rt, alloc, &list, Some(&image))?;
-    }
-    Ok(())
+    check_swapped(&rt, alloc, &[Some(5), None], &[None, Some(-5)])?;
+    check_swapped(&rt, alloc, &[None, Some(7)], &[Some(7), None])?;
+    let most = [Some(i64::MAX), Some(1)];
+    check_swapped(&rt, alloc, &most, &[Some(1), Some(-i64::MAX)])
 }
 
 // The first column with its sign turned.
@@ -170,22 +190,30 @@ fn doubled_item(alloc: Global) -> Result<Expr, Fail> {
     Ok(Expr::Sum(terms))
 }
 
-// The items in this order refuse a row of the least BIGINT for this value, and leave the list as it is.
-fn check_refused(
-    rt: &impl Abort,
-    alloc: Global,
-    first: Expr,
-    second: Expr,
-    value: i128,
-) -> Result<(), Fail> {
+// The first column turned, or doubled.
+fn changed_item(alloc: Global, turned: bool) -> Result<Expr, Fail> {
+    if turned {
+        turned_item(alloc)
+    } else {
+        doubled_item(alloc)
+    }
+}
+
+// The first column, and it turned and doubled, in this order.
+fn both_changed(alloc: Global, turned_first: bool) -> Result<Project, Fail> {
     let mut items = Items::new(alloc);
     items.push(Expr::Column(0))?;
-    items.push(first)?;
-    items.push(second)?;
-    let op = Project { items };
+    for turned in [turned_first, !turned_first] {
+        items.push(changed_item(alloc, turned)?)?;
+    }
+    Ok(Project { items })
+}
+
+// A row of the least BIGINT is refused for this value, and the list is left as it is.
+fn check_refused(rt: &impl Abort, alloc: Global, op: &Project, value: i128) -> Result<(), Fail> {
     let row = row_of(alloc, &[Some(i64::MIN)])?;
     let mut list = list_of_one(alloc)?;
-    let answer = project_on(alloc, &op, &row, &[Kind::Bigint], &mut list);
+    let answer = project_on(alloc, op, &row, &[Kind::Bigint], &mut list);
     assert_eq!(rt; answer, Some(Err(OpFault::Value { value })));
     check_list(rt, alloc, &list, None)
 }
@@ -193,23 +221,13 @@ fn check_refused(
 #[test]
 fn the_first_item_outside_the_range_is_reported(rt: HostRuntime) -> Result<(), Fail> {
     let alloc = rt.alloc();
-    let turned = 9223372036854775808;
-    let doubled = -18446744073709551616;
+    check_refused(&rt, alloc, &both_changed(alloc, true)?, 9223372036854775808)?;
     check_refused(
         &rt,
         alloc,
-        turned_item(alloc)?,
-        doubled_item(alloc)?,
-        turned,
-    )?;
-    check_refused(
-        &rt,
-        alloc,
-        doubled_item(alloc)?,
-        turned_item(alloc)?,
-        doubled,
-    )?;
-    Ok(())
+        &both_changed(alloc, false)?,
+        -18446744073709551616,
+    )
 }
 
 #[test]

@@ -112,9 +112,8 @@ pub fn check_rows(
     for (i, item) in expected.iter().enumerate() {
         let row = row_of(alloc, &[Some(item.0)])?;
         let (found, weight) = z.at(i);
-        assert!(rt; *found == row, "at {i}");
-        assert_eq!(rt; weight, item.1, "at {i}");
-        assert_eq!(rt; z.weight_of(&row), item.1, "at {i}");
+        let answers = (*found == row, weight, z.weight_of(&row));
+        assert_eq!(rt; answers, (true, item.1, item.1), "at {i}");
     }
     Ok(())
 }

@@ -14,52 +14,46 @@ use std::alloc::Global;
 use std::process::Abort;
 use std::test::Fail;
 
+// One stage of each kind.
+#[derive(Drop)]
+struct Stages {
+    integrator: Integrator,
+    differentiator: Differentiator,
+    delay: Delay,
+}
+
 // One step of all three. The differentiator is given what the integrator answers, and what it answers is checked against the change.
 fn check_step(
     rt: &impl Abort,
     alloc: Global,
-    stages: (&mut Integrator, &mut Differentiator, &mut Delay),
-    change: &ZSet,
+    stages: &mut Stages,
+    change: &[(i64, i64)],
     expected: (&[(i64, i64)], &[(i64, i64)], &[(i64, i64)]),
 ) -> Result<(), Fail> {
-    let (integrator, differentiator, delay) = stages;
     let (integrated, differentiated, delayed) = expected;
-    let whole = integrator.step(alloc, change)?;
+    let change = zset_of(alloc, change)?;
+    let whole = stages.integrator.step(alloc, &change)?;
     check_rows(rt, alloc, &whole, integrated)?;
-    let back = differentiator.step(alloc, &whole)?;
+    let back = stages.differentiator.step(alloc, &whole)?;
     check_rows(rt, alloc, &back, differentiated)?;
-    let before = delay.step(alloc, change)?;
+    let before = stages.delay.step(alloc, &change)?;
     check_rows(rt, alloc, &before, delayed)
 }
 
 #[test]
 fn three_steps_of_each(rt: HostRuntime) -> Result<(), Fail> {
     let alloc = rt.alloc();
-    let mut integrator = Integrator::new(alloc);
-    let mut differentiator = Differentiator::new(alloc);
-    let mut delay = Delay::new(alloc);
-    check_step(
-        &rt,
-        alloc,
-        (&mut integrator, &mut differentiator, &mut delay),
-        &zset_of(alloc, &[(1, 1)])?,
-        (&[(1, 1)], &[(1, 1)], &[]),
-    )?;
-    check_step(
-        &rt,
-        alloc,
-        (&mut integrator, &mut differentiator, &mut delay),
-        &zset_of(alloc, &[(1, -1), (2, 2)])?,
-        (&[(2, 2)], &[(1, -1), (2, 2)], &[(1, 1)]),
-    )?;
-    check_step(
-        &rt,
-        alloc,
-        (&mut integrator, &mut differentiator, &mut delay),
-        &ZSet::empty(alloc),
-        (&[(2, 2)], &[], &[(1, -1), (2, 2)]),
-    )?;
-    Ok(())
+    let mut stages = Stages {
+        integrator: Integrator::new(alloc),
+        differentiator: Differentiator::new(alloc),
+        delay: Delay::new(alloc),
+    };
+    let first: &[(i64, i64)] = &[(1, 1)];
+    let second: &[(i64, i64)] = &[(1, -1), (2, 2)];
+    let whole: &[(i64, i64)] = &[(2, 2)];
+    check_step(&rt, alloc, &mut stages, first, (first, first, &[]))?;
+    check_step(&rt, alloc, &mut stages, second, (whole, second, first))?;
+    check_step(&rt, alloc, &mut stages, &[], (whole, &[], second))
 }
 
 #[test]
