@@ -1,0 +1,4 @@
+pub mod Alongside
+pub mod Evaluating
+pub mod Owning
+pub mod Bounding

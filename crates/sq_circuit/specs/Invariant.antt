@@ -1,0 +1,177 @@
+-- What the type of circuits keeps. A circuit is the list of its parts.
+--     IsGood c tables         tables for the circuit: of their kinds, without negative weights, and with totals of at most 2^61
+--     IsPart c i p            the part p may stand at i: it reads earlier nodes, stands in order, takes what it reads, and has its owner
+--     IsBounded c i p z       the rows z of a sound node are of its kinds, and their weights are bounded
+--     IsCircuit c             each part may stand where it does, and sound nodes are bounded over good tables
+use Rattle.std.specs.Prelude.{◌≡◌, ℕ, ◌+◌, ◌<◌, ◌≤◌, ◌^◌, Bool, true, false, List, filter, length, slice_get, ℤ, pos, ◌-ℤ◌, ◌≤ℤ◌, unsigned_abs, Option, Some, None, ◌⊎◌, ⊤}
+use Rattle.std.specs.List.{All}
+use Rattle.sq_value.specs.declared.value.Value.{Value}
+use Rattle.sq_expr.specs.declared.expr.Kind.{Kind}
+use Rattle.sq_expr.specs.Kinds.{AreOfKinds}
+use Rattle.sq_algebra.specs.Operators.{IsNonNegative}
+use Rattle.sq_algebra.specs.ZSet.{entries, total, weight}
+use Rattle.sq_zset.specs.Collecting.{mass_of}
+use Rattle.sq_ops.specs.Aggregates.{SuitsSpec}
+use Rattle.sq_ops.specs.JoinLaws.{SuitsPairing}
+use Rattle.sq_circuit.specs.Circuits.{has_fault, is_sound, kinds_at, owner_at, table_at, whole}
+use Rattle.sq_circuit.specs.LinearOps.{SuitsOp}
+use Rattle.sq_circuit.specs.Nodes.{Rows, Source, Nowhere, Outer, Inner, left_source, right_source}
+use Rattle.sq_circuit.specs.declared.circuit.Part.{Part}
+use Rattle.sq_circuit.specs.declared.node.LinearOp.{LinearOp}
+use Rattle.sq_circuit.specs.declared.node.LinearOp.TheVariants.{Keep, Project, Pad}
+use Rattle.sq_circuit.specs.declared.node.Node.{Node}
+use Rattle.sq_circuit.specs.declared.node.Node.TheVariants.{Table, Linear, Join, Distinct, Aggregate, Plus, Minus, View}
+
+-- ---- order
+-- an inner source is an earlier node
+abbrev pub IsEarlier : ℕ → Source → Type 0
+IsEarlier i Nowhere = ⊤
+IsEarlier i (Outer t) = ⊤
+IsEarlier i (Inner j) = j < i
+
+abbrev pub is_table : Node → Bool
+is_table (Table t) = true
+is_table (Linear i op) = false
+is_table (Join l r op) = false
+is_table (Distinct i) = false
+is_table (Aggregate i spec) = false
+is_table (Plus l r) = false
+is_table (Minus l r) = false
+is_table (View i v) = false
+
+abbrev pub is_view : Node → Bool
+is_view (Table t) = false
+is_view (Linear i op) = false
+is_view (Join l r op) = false
+is_view (Distinct i) = false
+is_view (Aggregate i spec) = false
+is_view (Plus l r) = false
+is_view (Minus l r) = false
+is_view (View i v) = true
+
+abbrev pub table_count : List Part → ℕ
+table_count c = length (filter (λ p. is_table p.node) c)
+
+abbrev pub view_count : List Part → ℕ
+view_count c = length (filter (λ p. is_view p.node) c)
+
+-- a node that is neither table nor view stands between the tables and the views
+abbrev pub IsBetween : List Part → ℕ → Type 0
+IsBetween c i = (table_count c ≤ i) × (i + view_count c < length c)
+
+-- table t stands at t, and view v so far behind all nodes that are no views
+abbrev pub IsInOrder : List Part → ℕ → Node → Type 0
+IsInOrder c i (Table t) = (i ≡ t) × (t < table_count c)
+IsInOrder c i (Linear j op) = IsBetween c i
+IsInOrder c i (Join l r op) = IsBetween c i
+IsInOrder c i (Distinct j) = IsBetween c i
+IsInOrder c i (Aggregate j spec) = IsBetween c i
+IsInOrder c i (Plus l r) = IsBetween c i
+IsInOrder c i (Minus l r) = IsBetween c i
+IsInOrder c i (View j v) = (i + view_count c ≡ length c + v) × (v < view_count c)
+
+-- ---- kinds
+-- the operator takes rows of the kinds that it reads
+abbrev pub TakesKinds : Node → (ℕ → List Kind) → Type 0
+TakesKinds (Table t) kinds = ⊤
+TakesKinds (Linear i op) kinds = SuitsOp op (kinds i)
+TakesKinds (Join l r op) kinds = SuitsPairing op.left op.right op.items op.keep (kinds l) (kinds r)
+TakesKinds (Distinct i) kinds = ⊤
+TakesKinds (Aggregate i spec) kinds = SuitsSpec spec (kinds i)
+TakesKinds (Plus l r) kinds = ⊤
+TakesKinds (Minus l r) kinds = ⊤
+TakesKinds (View i v) kinds = ⊤
+
+-- how wide the images of rows of a width are
+abbrev pub width_of : LinearOp → ℕ → ℕ
+width_of (Keep op) width = width
+width_of (Project op) width = length op.items
+width_of (Pad op) width = width + op.nulls
+
+-- its rows are as wide as what it makes of those that it reads
+abbrev pub HasWidth : Node → (ℕ → List Kind) → ℕ → Type 0
+HasWidth (Table t) kinds width = ⊤
+HasWidth (Linear i op) kinds width = width ≡ width_of op (length (kinds i))
+HasWidth (Join l r op) kinds width = width ≡ length op.items
+HasWidth (Distinct i) kinds width = width ≡ length (kinds i)
+HasWidth (Aggregate i spec) kinds width = width ≡ length spec.group + length spec.calls
+HasWidth (Plus l r) kinds width = (width ≡ length (kinds l)) × (width ≡ length (kinds r))
+HasWidth (Minus l r) kinds width = (width ≡ length (kinds l)) × (width ≡ length (kinds r))
+HasWidth (View i v) kinds width = width ≡ length (kinds i)
+
+-- ---- owners
+-- the owner of an inner source is not above the view v
+abbrev pub IsOwnedBelow : List Part → ℕ → Source → Type 0
+IsOwnedBelow c v Nowhere = ⊤
+IsOwnedBelow c v (Outer t) = ⊤
+IsOwnedBelow c v (Inner j) = (w : ℕ) → owner_at c j ≡ Some w → w ≤ v
+
+-- an owner that is a view of the circuit, and not below the owners of what the node reads
+pub record IsOwner (c : List Part) (node : Node) (v : ℕ) : Type 0 where
+  pub is_view : v < view_count c
+  pub left : IsOwnedBelow c v (left_source node)
+  pub right : IsOwnedBelow c v (right_source node)
+
+-- a table is no place and has no owner, and every other node has one
+abbrev pub IsOwned : List Part → Node → Bool → Option ℕ → Type 0
+IsOwned c (Table t) place owner = (place ≡ false) × (owner ≡ None)
+IsOwned c node place None = ⊥
+IsOwned c node place (Some v) = IsOwner c node v
+
+-- ---- parts
+pub record IsPart (c : List Part) (i : ℕ) (p : Part) : Type 0 where
+  pub left_earlier : IsEarlier i (left_source p.node)
+  pub right_earlier : IsEarlier i (right_source p.node)
+  pub in_order : IsInOrder c i p.node
+  pub takes : TakesKinds p.node (kinds_at c)
+  pub width : HasWidth p.node (kinds_at c) (length p.kinds)
+  pub owned : IsOwned c p.node p.place p.owner
+
+-- ---- bounds
+-- rows that a list of at most 2^61 rows has
+pub record IsListed (z : Rows) : Type 0 where
+  pub above : IsNonNegative z
+  pub few : total z ≤ℤ pos (2 ^ 61)
+
+-- rows of these kinds alone
+abbrev pub HasKinds : List Kind → Rows → Type 0
+HasKinds kinds z = All (λ e. AreOfKinds e.0 kinds) (entries z)
+
+pub record IsGood (c : List Part) (tables : List Rows) : Type 0 where
+  pub count : length tables ≡ table_count c
+  pub of_kinds : (i : ℕ) (p : Part) (t : ℕ) → slice_get c i ≡ Some p → p.node ≡ Table t → HasKinds p.kinds (table_at tables t)
+  pub listed : (t : ℕ) → IsListed (table_at tables t)
+
+-- a Project, a Join or an Aggregate that reads the node i
+abbrev pub NeedsListed : Node → ℕ → Type 0
+NeedsListed (Table t) i = ⊥
+NeedsListed (Linear j (Keep op)) i = ⊥
+NeedsListed (Linear j (Project op)) i = j ≡ i
+NeedsListed (Linear j (Pad op)) i = ⊥
+NeedsListed (Join l r op) i = (l ≡ i) ⊎ (r ≡ i)
+NeedsListed (Distinct j) i = ⊥
+NeedsListed (Aggregate j spec) i = j ≡ i
+NeedsListed (Plus l r) i = ⊥
+NeedsListed (Minus l r) i = ⊥
+NeedsListed (View j v) i = ⊥
+
+pub record IsBounded (c : List Part) (i : ℕ) (p : Part) (z : Rows) : Type 0 where
+  pub of_kinds : HasKinds p.kinds z
+  pub place : p.place ≡ true → IsListed z
+  pub needed : (k : ℕ) (q : Part) → slice_get c k ≡ Some q → NeedsListed q.node i → IsListed z
+  pub few : p.place ≡ false → mass_of (entries z) ≤ 2 ^ 62
+
+-- a sound node over good tables
+pub record IsSoundAt (c : List Part) (tables : List Rows) (i : ℕ) : Type 0 where
+  pub good : IsGood c tables
+  pub sound : is_sound c tables i ≡ true
+
+-- the weight of no row differs by more than 2^62
+abbrev pub IsNear : Rows → Rows → Type 0
+IsNear y z = (row : List Value) → unsigned_abs (weight row z -ℤ weight row y) ≤ 2 ^ 62
+
+pub record IsCircuit (c : List Part) : Type 0 where
+  pub few : length c < 2 ^ 32
+  pub parts : (i : ℕ) (p : Part) → slice_get c i ≡ Some p → IsPart c i p
+  pub bounded : (tables : List Rows) (i : ℕ) (p : Part) → slice_get c i ≡ Some p → IsSoundAt c tables i → IsBounded c i p (whole c tables i)
+  pub steady : (old new : List Rows) (i : ℕ) (p : Part) → slice_get c i ≡ Some p → p.place ≡ false → IsSoundAt c old i → IsSoundAt c new i → IsNear (whole c old i) (whole c new i)

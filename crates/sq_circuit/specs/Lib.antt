@@ -1,0 +1,5 @@
+pub mod LinearOps
+pub mod Along
+pub mod Nodes
+pub mod Circuits
+pub mod Invariant

@@ -1,0 +1,4 @@
+pub mod Knowing
+pub mod Reading
+pub mod Gathering
+pub mod Pairing
