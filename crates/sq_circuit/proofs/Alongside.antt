@@ -23,7 +23,7 @@ module _ {A : Type 0} (start : A) (step : ℕ → (ℕ → A) → A) where
   along_is reads n = reads n (before start step n) (along start step) (λ i low. before_at n i low)
 
 -- ---- the list of the values below a number
-got_front : {A : Type 0} (xs ys : List A) (i : ℕ) → i < length xs → slice_get (xs ++ ys) i ≡ slice_get xs i
+pub got_front : {A : Type 0} (xs ys : List A) (i : ℕ) → i < length xs → slice_get (xs ++ ys) i ≡ slice_get xs i
 got_front [] ys i low = absurd (omega arith)
 got_front (x ∷ xs) ys zero low = refl
 got_front (x ∷ xs) ys (suc i) low = got_front xs ys i (omega arith)
@@ -129,3 +129,17 @@ module _ (f g : ℕ → Option ℕ) (n : ℕ) (within : (i v : ℕ) → i < n �
 
   pub least_agree : least_below f n ≡ least_below g n
   least_agree = agree (least_below f n) (least_below g n) refl refl
+
+-- ---- two families of steps that agree below a number
+module _ {A : Type 0} (start : A) (f g : ℕ → (ℕ → A) → A) (n : ℕ) (same : (i : ℕ) (below : ℕ → A) → i < n → f i below ≡ g i below) where
+  before_same : (m : ℕ) → m ≤ n → before start f m ≡ before start g m
+  unfolding before
+  before_same zero low = refl
+  before_same (suc m) low =
+      let rest : before start f m ≡ before start g m = before_same m (omega arith) in
+      let last : f m (before start f m) ≡ g m (before start g m) = same m (before start f m) (omega arith) ∙ ap (g m) rest in
+      λ d i. cond (i == m) (last d) (rest d i)
+
+  pub along_same : (i : ℕ) → i < n → along start f i ≡ along start g i
+  unfolding along
+  along_same i low = same i (before start f i) low ∙ ap (g i) (before_same i (omega arith))

@@ -4,13 +4,9 @@ use Rattle.std.specs.Prelude.{Option, slice_get}
 use Rattle.sq_circuit.proofs.Alongside.{along_is}
 use Rattle.sq_circuit.specs.Along.{ReadsEarlier, along}
 use Rattle.sq_circuit.specs.Circuits.{are_sound, fault_of, has_fault, is_sound, known, sound_step, table_at, value_of, value_step, whole, whole_from}
-use Rattle.sq_circuit.specs.Invariant.{IsEarlier}
+use Rattle.sq_circuit.specs.Invariant.{AreEarlier, IsEarlier}
 use Rattle.sq_circuit.specs.Nodes.{Rows, Source, Nowhere, Outer, Inner, left_source, none, operator, read, right_source}
 use Rattle.sq_circuit.specs.declared.circuit.Part.{Part}
-
--- every node of a list of parts reads earlier ones
-abbrev pub AreEarlier : List Part → Type 0
-AreEarlier c = (i : ℕ) (p : Part) → slice_get c i ≡ Some p → IsEarlier i (left_source p.node) × IsEarlier i (right_source p.node)
 
 read_agree : {A : Type 0} (outer : ℕ → A) (other : A) (s : Source) (n : ℕ) → IsEarlier n s → (f g : ℕ → A) → ((i : ℕ) → i < n → f i ≡ g i) → read outer f other s ≡ read outer g other s
 read_agree outer other Nowhere n low f g same = refl

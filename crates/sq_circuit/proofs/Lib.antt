@@ -2,3 +2,8 @@ pub mod Alongside
 pub mod Evaluating
 pub mod Owning
 pub mod Bounding
+pub mod Listing
+pub mod Smallest
+pub mod Lawful
+pub mod Growing
+pub mod Lawfully

@@ -7,13 +7,13 @@ use Rattle.std.proofs.lemmas.Bool.{and_cases}
 use Rattle.std.proofs.lemmas.Option.{same_Some, slice_get_cases, slice_get_within, slice_get-get_or}
 use Rattle.sq_circuit.specs.Along.{least_below}
 use Rattle.sq_circuit.specs.Circuits.{are_sound, has_fault, is_sound, lists_too_many, has_number_outside, owner_at, owner_in, verdict, whole, whole_from}
-use Rattle.sq_circuit.specs.Invariant.{IsCircuit, IsEarlier, IsOwned, IsOwnedBelow, IsOwner, IsPart}
+use Rattle.sq_circuit.specs.Invariant.{AreEarlier, IsCircuit, IsEarlier, IsOwned, IsOwnedBelow, IsOwner, IsPart}
 use Rattle.sq_circuit.specs.Nodes.{Rows, Source, Nowhere, Outer, Inner, left_source, none, operator, read, right_source}
 use Rattle.sq_circuit.specs.declared.circuit.Part.{Part}
 use Rattle.sq_circuit.specs.declared.node.Node.{Node}
 use Rattle.sq_circuit.specs.declared.node.Node.TheVariants.{Table, Linear, Join, Distinct, Aggregate, Plus, Minus, View}
 use Rattle.sq_circuit.proofs.Alongside.{Below, Found, least_agree, least_bound, least_found}
-use Rattle.sq_circuit.proofs.Evaluating.{AreEarlier, fault_at, sound_at, sound_is, source_sound, whole_at}
+use Rattle.sq_circuit.proofs.Evaluating.{fault_at, sound_at, sound_is, source_sound, whole_at}
 
 -- a node is a table, which is no place and has no owner, or has one
 pub record IsTableNode (node : Node) (place : Bool) (owner : Option ℕ) : Type 0 where

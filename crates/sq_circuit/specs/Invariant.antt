@@ -2,8 +2,10 @@
 --     IsGood c tables         tables for the circuit: of their kinds, without negative weights, and with totals of at most 2^61
 --     IsPart c i p            the part p may stand at i: it reads earlier nodes, stands in order, takes what it reads, and has its owner
 --     IsBounded c i p z       the rows z of a sound node are of its kinds, and their weights are bounded
+--     AreEarlier c            each node reads earlier nodes alone
+--     table_and_view kinds    the circuit of a table and a view of it
 --     IsCircuit c             each part may stand where it does, and sound nodes are bounded over good tables
-use Rattle.std.specs.Prelude.{◌≡◌, ℕ, ◌+◌, ◌<◌, ◌≤◌, ◌^◌, Bool, true, false, List, filter, length, slice_get, ℤ, pos, ◌-ℤ◌, ◌≤ℤ◌, unsigned_abs, Option, Some, None, ◌⊎◌, ⊤}
+use Rattle.std.specs.Prelude.{◌≡◌, ℕ, ◌+◌, ◌<◌, ◌≤◌, ◌^◌, Bool, true, false, List, [], ◌∷◌, filter, length, slice_get, ℤ, pos, ◌-ℤ◌, ◌≤ℤ◌, unsigned_abs, Option, Some, None, ◌⊎◌, ⊤}
 use Rattle.std.specs.List.{All}
 use Rattle.sq_value.specs.declared.value.Value.{Value}
 use Rattle.sq_expr.specs.declared.expr.Kind.{Kind}
@@ -28,6 +30,9 @@ abbrev pub IsEarlier : ℕ → Source → Type 0
 IsEarlier i Nowhere = ⊤
 IsEarlier i (Outer t) = ⊤
 IsEarlier i (Inner j) = j < i
+
+abbrev pub AreEarlier : List Part → Type 0
+AreEarlier c = (i : ℕ) (p : Part) → slice_get c i ≡ Some p → IsEarlier i (left_source p.node) × IsEarlier i (right_source p.node)
 
 abbrev pub is_table : Node → Bool
 is_table (Table t) = true
@@ -175,3 +180,10 @@ pub record IsCircuit (c : List Part) : Type 0 where
   pub parts : (i : ℕ) (p : Part) → slice_get c i ≡ Some p → IsPart c i p
   pub bounded : (tables : List Rows) (i : ℕ) (p : Part) → slice_get c i ≡ Some p → IsSoundAt c tables i → IsBounded c i p (whole c tables i)
   pub steady : (old new : List Rows) (i : ℕ) (p : Part) → slice_get c i ≡ Some p → p.place ≡ false → IsSoundAt c old i → IsSoundAt c new i → IsNear (whole c old i) (whole c new i)
+
+-- ---- the least circuit
+-- a table, and a view of it
+abbrev pub table_and_view : List Kind → List Part
+table_and_view kinds =
+    record { node = Table 0; kinds = kinds; place = false; owner = None }
+    ∷ record { node = View 0 0; kinds = kinds; place = false; owner = Some 0 } ∷ []

@@ -3,6 +3,7 @@
 #![tactic(auto)]
 
 mod circuit;
+pub mod laws;
 mod node;
 
 pub use circuit::{Circuit, Part};

@@ -1,0 +1,25 @@
+-- Words for laws of verdicts, and of what a node needs.
+--     IsToBlame c tables v      a node with a fault belongs to the view v
+--     IsAtMost o w              a number that may be missing is there, and is not above w
+--     source_sound c tables s   what a source reads is sound
+--     unsound_owner c tables i  the owner of the node i, if it is not sound
+use Rattle.std.specs.Prelude.{◌≡◌, ℕ, ◌<◌, ◌≤◌, Bool, true, if◌then◌else◌, List, length, Option, Some, None}
+use Rattle.sq_circuit.specs.Circuits.{has_fault, is_sound, owner_at}
+use Rattle.sq_circuit.specs.Nodes.{Rows, Source, read}
+use Rattle.sq_circuit.specs.declared.circuit.Part.{Part}
+
+pub record IsToBlame (c : List Part) (tables : List Rows) (v : ℕ) : Type 0 where
+  pub node : ℕ
+  pub low : node < length c
+  pub fault : has_fault c tables node ≡ true
+  pub owner : owner_at c node ≡ Some v
+
+abbrev pub IsAtMost : Option ℕ → ℕ → Type 0
+IsAtMost None w = ⊥
+IsAtMost (Some v) w = v ≤ w
+
+abbrev pub source_sound : List Part → List Rows → Source → Bool
+source_sound c tables s = read (λ t. true) (is_sound c tables) true s
+
+abbrev pub unsound_owner : List Part → List Rows → ℕ → Option ℕ
+unsound_owner c tables i = if is_sound c tables i then None else owner_at c i

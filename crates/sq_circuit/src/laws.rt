@@ -1,0 +1,86 @@
+//! What holds of circuits, each as the contract of a function that does nothing.
+ghost use Rattle.std.specs.Prelude.{◌≡◌, ◌<◌, ◌++◌, ℕ, List, length, slice_get, not, ◌&&◌, Some, None, true, false};
+ghost use Rattle.sq_expr.specs.declared.expr.Kind.{Kind as ColumnKind};
+ghost use Rattle.sq_zset.specs.Range.{IsInRange};
+ghost use Rattle.sq_circuit.specs.Along.{least_below};
+ghost use Rattle.sq_circuit.specs.Circuits.{fault_of, has_fault, is_sound, owner_at, verdict, whole, whole_from};
+ghost use Rattle.sq_circuit.specs.Invariant.{AreEarlier, HasKinds, IsCircuit, IsSoundAt, table_and_view};
+ghost use Rattle.sq_circuit.specs.NodeLaws.{IsLawful};
+ghost use Rattle.sq_circuit.specs.Nodes.{Rows, left_source, operator, right_source};
+ghost use Rattle.sq_circuit.specs.Verdicts.{IsAtMost, IsToBlame, source_sound, unsound_owner};
+ghost use Rattle.sq_circuit.specs.declared.circuit.Part.{Part as Known};
+ghost use Rattle.sq_circuit.specs.declared.node.Node.{Node as Operator};
+
+use crate::{Circuit, LinearOp, Node, Part};
+
+/// Every kind of node adds up over the parts in all shards, by the keys of the node, and changes by these keys; over no
+/// rows there are its standing rows alone. `IsLawful` has these laws by name, and no law above has to tell kinds apart.
+pub fn every_node_is_lawful()
+    ensures { (n : Operator) → IsLawful n }
+{}
+
+/// A node depends on what it reads alone: its Z-set is its operator over it, it has a fault by what it reads and its
+/// Z-set, and it is sound if it has no fault and what it reads is sound.
+pub fn nodes_depend_on_what_they_read()
+    ensures value { (c : List Known) (tables : List Rows) (i : ℕ) (p : Known) → AreEarlier c → slice_get c i ≡ Some p
+        → whole c tables i ≡ operator p.node (whole_from c tables (left_source p.node)) (whole_from c tables (right_source p.node)) }
+    ensures fault { (c : List Known) (tables : List Rows) (i : ℕ) (p : Known) → AreEarlier c → slice_get c i ≡ Some p
+        → has_fault c tables i ≡ fault_of (Some p) (whole_from c tables) (whole c tables i) }
+    ensures sound { (c : List Known) (tables : List Rows) (i : ℕ) (p : Known) → AreEarlier c → slice_get c i ≡ Some p
+        → is_sound c tables i ≡ not (has_fault c tables i) && (source_sound c tables (left_source p.node) && source_sound c tables (right_source p.node)) }
+    ensures earlier { (c : List Known) → IsCircuit c → AreEarlier c }
+{}
+
+/// More nodes behind leave the Z-sets, faults and soundness of the others.
+pub fn growth_leaves_nodes()
+    ensures value { (c more : List Known) (tables : List Rows) (i : ℕ) → i < length c → whole (c ++ more) tables i ≡ whole c tables i }
+    ensures fault { (c more : List Known) (tables : List Rows) → AreEarlier c → (i : ℕ) → i < length c → has_fault (c ++ more) tables i ≡ has_fault c tables i }
+    ensures sound { (c more : List Known) (tables : List Rows) → AreEarlier c → (i : ℕ) → i < length c → is_sound (c ++ more) tables i ≡ is_sound c tables i }
+{}
+
+/// A sound node has no fault, and what it reads is sound. Over good tables its rows are of its kinds, and their weights in
+/// range.
+pub fn sound_nodes_have_sound_inputs()
+    ensures faultless { (c : List Known) → IsCircuit c → (tables : List Rows) (i : ℕ) (p : Known) → slice_get c i ≡ Some p → is_sound c tables i ≡ true → has_fault c tables i ≡ false }
+    ensures left { (c : List Known) → IsCircuit c → (tables : List Rows) (i : ℕ) (p : Known) → slice_get c i ≡ Some p → is_sound c tables i ≡ true → source_sound c tables (left_source p.node) ≡ true }
+    ensures right { (c : List Known) → IsCircuit c → (tables : List Rows) (i : ℕ) (p : Known) → slice_get c i ≡ Some p → is_sound c tables i ≡ true → source_sound c tables (right_source p.node) ≡ true }
+    ensures kinds { (c : List Known) (tables : List Rows) (i : ℕ) (p : Known) → IsCircuit c → slice_get c i ≡ Some p → IsSoundAt c tables i → HasKinds p.kinds (whole c tables i) }
+    ensures in_range { (c : List Known) (tables : List Rows) (i : ℕ) (p : Known) → IsCircuit c → slice_get c i ≡ Some p → IsSoundAt c tables i → IsInRange (whole c tables i) }
+{}
+
+/// The verdict is the least owner of a node with a fault, none if no node has one. It is the least owner of a node that is
+/// not sound too, since such a node needs one with a fault whose owner is not above its own.
+pub fn verdicts_are_least_owners()
+    ensures found { (c : List Known) → IsCircuit c → (tables : List Rows) (v : ℕ) → verdict c tables ≡ Some v → IsToBlame c tables v }
+    ensures least { (c : List Known) → IsCircuit c → (tables : List Rows) (i w : ℕ) → i < length c → has_fault c tables i ≡ true → owner_at c i ≡ Some w → IsAtMost (verdict c tables) w }
+    ensures none { (c : List Known) → IsCircuit c → (tables : List Rows) → verdict c tables ≡ None → (i : ℕ) → i < length c → has_fault c tables i ≡ false }
+    ensures clear { (c : List Known) → IsCircuit c → (tables : List Rows) → ((i : ℕ) → i < length c → has_fault c tables i ≡ false) → verdict c tables ≡ None }
+    ensures unsound { (c : List Known) → IsCircuit c → (tables : List Rows) → verdict c tables ≡ least_below (unsound_owner c tables) (length c) }
+{}
+
+/// A table of any kinds and a view of it are a circuit.
+pub fn a_view_of_a_table_is_a_circuit()
+    ensures { (kinds : List ColumnKind) → IsCircuit (table_and_view kinds) }
+{}
+
+fn is_send_and_sync<T: Send + Sync>() {}
+
+// A linear operator may be handed to another thread, and be shared.
+fn operators_cross_threads() {
+    is_send_and_sync::<LinearOp>();
+}
+
+// So may a node.
+fn nodes_cross_threads() {
+    is_send_and_sync::<Node>();
+}
+
+// So may a part.
+fn parts_cross_threads() {
+    is_send_and_sync::<Part>();
+}
+
+// So may a circuit.
+fn circuits_cross_threads() {
+    is_send_and_sync::<Circuit>();
+}
