@@ -1,10 +1,9 @@
 -- The weights of a sound node lie in the range of a weight.
-use Rattle.std.proofs.Common.{◌≡◌, ℕ, zero, suc, ◌+◌, ◌<◌, ◌≤◌, ◌^◌, Bool, true, false, not, cond, List, [], ◌∷◌, ℤ, pos, ◌≤ℤ◌, unsigned_abs, Some, None, refl, sym, ap, subst, ◌∙◌, arith, le-leb}
-use Rattle.std.specs.Prelude.{Option, slice_get}
+use Rattle.std.proofs.Common.{◌≡◌, ℕ, ◌≤◌, ◌^◌, Bool, true, false, not, cond, List, [], ◌∷◌, ℤ, unsigned_abs, Some, None, refl, ap, ◌∙◌, arith, le-leb}
 use Rattle.std.proofs.lemmas.List.Sums.{sum_by-cons}
 use borrow.Author.Differences.{ints}
 use Rattle.sq_value.specs.declared.value.Value.{Value}
-use Rattle.sq_algebra.specs.ZSet.{entries, total}
+use Rattle.sq_algebra.specs.ZSet.{entries}
 use Rattle.sq_zset.specs.Collecting.{mass_of}
 use Rattle.sq_zset.specs.Range.{IsInRange, first_outside_in}
 use Rattle.sq_zset.proofs.Masses.{mass-total}

@@ -1,9 +1,9 @@
 -- The value, the fault and the soundness of a node, each by those of the nodes that it reads.
-use Rattle.std.proofs.Common.{◌≡◌, ℕ, zero, suc, ◌+◌, ◌<◌, ◌≤◌, ◌^◌, Bool, true, false, not, ◌&&◌, ◌||◌, cond, List, [], ◌∷◌, length, Some, None, refl, sym, ap, ap₂, subst, ◌∙◌, arith}
+use Rattle.std.proofs.Common.{◌≡◌, ℕ, ◌<◌, Bool, true, not, ◌&&◌, List, Some, None, refl, ap, ap₂, ◌∙◌}
 use Rattle.std.specs.Prelude.{Option, slice_get}
 use Rattle.sq_circuit.proofs.Alongside.{along_is}
-use Rattle.sq_circuit.specs.Along.{ReadsEarlier, along}
-use Rattle.sq_circuit.specs.Circuits.{are_sound, fault_of, has_fault, is_sound, known, sound_step, table_at, value_of, value_step, whole, whole_from}
+use Rattle.sq_circuit.specs.Along.{ReadsEarlier}
+use Rattle.sq_circuit.specs.Circuits.{are_sound, fault_of, has_fault, is_sound, sound_step, table_at, value_of, value_step, whole, whole_from}
 use Rattle.sq_circuit.specs.Invariant.{AreEarlier, IsEarlier}
 use Rattle.sq_circuit.specs.Nodes.{Rows, Source, Nowhere, Outer, Inner, left_source, none, operator, read, right_source}
 use Rattle.sq_circuit.specs.declared.circuit.Part.{Part}

@@ -1,5 +1,5 @@
 -- More nodes behind a circuit leave the values, faults and soundness of its nodes.
-use Rattle.std.proofs.Common.{◌≡◌, ℕ, zero, suc, ◌+◌, ◌<◌, ◌≤◌, Bool, true, false, not, ◌&&◌, List, [], ◌∷◌, ◌++◌, length, Some, None, refl, sym, ap, ap₂, ◌∙◌, arith}
+use Rattle.std.proofs.Common.{◌≡◌, ℕ, ◌<◌, true, not, ◌&&◌, List, ◌++◌, length, Some, None, refl, ap, ap₂, ◌∙◌, arith}
 use Rattle.std.specs.Prelude.{Option, slice_get}
 use Rattle.sq_circuit.specs.Circuits.{are_sound, fault_of, has_fault, is_sound, sound_step, table_at, value_of, value_step, whole, whole_from}
 use Rattle.sq_circuit.specs.Invariant.{AreEarlier, IsEarlier}

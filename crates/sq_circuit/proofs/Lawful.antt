@@ -1,6 +1,5 @@
 -- Every kind of node adds up over shards, and changes by its keys.
-use Rattle.std.proofs.Common.{◌≡◌, ℕ, ◌==◌, Bool, true, false, not, ◌||◌, cond, List, [], ◌∷◌, Some, None, refl, sym, ap, ap₂, subst, ◌∙◌}
-use Rattle.std.specs.Prelude.{Option}
+use Rattle.std.proofs.Common.{◌≡◌, ℕ, ◌==◌, false, not, ◌||◌, cond, List, [], Some, refl, sym, ap, ap₂, ◌∙◌}
 use Rattle.std.specs.List.{list_any}
 use Rattle.std.specs.Ordering.{is_eq}
 use Rattle.std.proofs.lemmas.Option.{cond_some}
@@ -10,11 +9,11 @@ use Rattle.sq_value.specs.OrderLaws.{row_cmp-total, row_cmp-antisymmetric}
 use Rattle.sq_expr.specs.Meaning.{column_of, is_null}
 use Rattle.sq_algebra.specs.Groups.{IsAdditive, sum_over, z_sets}
 use Rattle.sq_algebra.specs.Keyed.{CoversOnce, Shards, at_key, by_key, cut, over_shards}
-use Rattle.sq_algebra.specs.Operators.{distinct, image, pairs_where, product}
+use Rattle.sq_algebra.specs.Operators.{distinct, image, pairs_where}
 use Rattle.sq_algebra.specs.ZSet.{minus, negate, plus}
-use Rattle.sq_algebra.proofs.AbelianLemmas.{IsAdditive-identity, additive-zero, bilinear_change, minus-plus, minus-plus_same, negate-IsAdditive, negate-zero, minus-self, neutral_right, plus-minus_left, plus-minus_back, sum_over-plus, sum_over_agree}
+use Rattle.sq_algebra.proofs.AbelianLemmas.{IsAdditive-identity, additive-zero, bilinear_change, minus-plus, negate-IsAdditive, minus-self, plus-minus_left, plus-minus_back, sum_over-plus, sum_over_agree}
 use Rattle.sq_algebra.proofs.JoinLemmas.{product_parts_right}
-use Rattle.sq_algebra.proofs.KeyedLemmas.{additive_parts, at_key-IsAdditive, at_key-plus, by_key-change, by_key-zero, by_key_at_key, distinct_by_key, distinct_part, distinct_part-zero, pairs_where_apart, product_parts}
+use Rattle.sq_algebra.proofs.KeyedLemmas.{additive_parts, at_key-plus, by_key-change, by_key-zero, by_key_at_key, distinct_by_key, distinct_part, distinct_part-zero, pairs_where_apart, product_parts}
 use Rattle.sq_algebra.proofs.OperatorLemmas.{image-IsAdditive, product-left, product-right, product-zero_left}
 use Rattle.sq_algebra.proofs.ShardLemmas.{additive_cuts, at_one_shard, by_key_cuts, product_some_cuts}
 use Rattle.sq_zset.specs.GroupLaws.{rows_are_abelian}

@@ -1,14 +1,11 @@
 -- A circuit whose sound nodes are lists of rows: what is left to show of it.
-use Rattle.std.proofs.Common.{◌≡◌, ℕ, zero, suc, ◌+◌, ◌<◌, ◌≤◌, ◌^◌, Bool, true, false, List, [], ◌∷◌, length, ℤ, pos, negsuc, ◌+ℤ◌, ◌-ℤ◌, ◌≤ℤ◌, unsigned_abs, Some, None, refl, sym, ap, subst, ◌∙◌, arith}
-use Rattle.std.specs.Prelude.{Option, slice_get}
+use Rattle.std.proofs.Common.{◌≡◌, ℕ, ◌<◌, ◌≤◌, ◌^◌, List, length, ℤ, pos, ◌-ℤ◌, ◌≤ℤ◌, unsigned_abs, Some, arith}
+use Rattle.std.specs.Prelude.{slice_get}
 use borrow.Author.Differences.{ints}
-use Rattle.sq_value.specs.declared.value.Value.{Value}
 use Rattle.sq_value.specs.Order.{row_cmp}
 use Rattle.sq_value.specs.OrderLaws.{row_cmp-total, row_cmp-antisymmetric}
-use Rattle.sq_algebra.specs.Operators.{IsNonNegative}
-use Rattle.sq_algebra.specs.ZSet.{entries, total, weight}
+use Rattle.sq_algebra.specs.ZSet.{weight}
 use Rattle.sq_algebra.proofs.NonNegativeLemmas.{weight-le-total}
-use Rattle.sq_zset.specs.Collecting.{mass_of}
 use Rattle.sq_circuit.specs.Circuits.{whole}
 use Rattle.sq_circuit.specs.Invariant.{HasKinds, IsBounded, IsCircuit, IsListed, IsNear, IsPart, IsSoundAt}
 use Rattle.sq_circuit.specs.Nodes.{Rows}
@@ -20,7 +17,7 @@ listed_bounded c i p z kinds listed = record {
   of_kinds = kinds;
   place = λ _. listed;
   needed = λ k q e h. listed;
-  few = λ _. let few = listed_few z listed in omega arith
+  few = λ _. let few = listed_few z listed in omega arith;
 }
 
 apart : (a b : ℤ) → pos 0 ≤ℤ a → a ≤ℤ pos (2 ^ 61) → pos 0 ≤ℤ b → b ≤ℤ pos (2 ^ 61) → unsigned_abs (b -ℤ a) ≤ 2 ^ 62
@@ -46,5 +43,5 @@ listed_circuit c few parts lists = record {
   few = few;
   parts = parts;
   bounded = λ tables i p e sound. let list = lists tables i p e sound in listed_bounded c i p (whole c tables i) list.of_kinds list.listed;
-  steady = λ old new i p e no_place before after. listed_near (whole c old i) (whole c new i) (lists old i p e before).listed (lists new i p e after).listed
+  steady = λ old new i p e no_place before after. listed_near (whole c old i) (whole c new i) (lists old i p e before).listed (lists new i p e after).listed;
 }

@@ -1,19 +1,19 @@
 -- Who is to blame: a node that is not sound has an owner, and needs a faulty node whose owner is not above it. So the verdict is also
 -- the least owner of a node that is not sound.
-use Rattle.std.proofs.Common.{◌≡◌, ℕ, zero, suc, ◌+◌, ◌<◌, ◌≤◌, ◌^◌, Bool, true, false, not, ◌&&◌, ◌||◌, cond, List, [], ◌∷◌, length, Some, None, refl, sym, ap, ap₂, subst, ◌∙◌, get_or, arith}
+use Rattle.std.proofs.Common.{◌≡◌, ℕ, zero, suc, ◌<◌, ◌≤◌, Bool, true, false, not, ◌&&◌, ◌||◌, cond, List, length, Some, None, refl, sym, ap, subst, ◌∙◌, get_or, arith}
 use mathlib.Core.Logic.{◌⊎◌, inl, inr}
 use Rattle.std.specs.Prelude.{Option, slice_get, if◌then◌else◌}
 use Rattle.std.proofs.lemmas.Bool.{and_cases}
 use Rattle.std.proofs.lemmas.Option.{same_Some, slice_get_cases, slice_get_within, slice_get-get_or}
 use Rattle.sq_circuit.specs.Along.{least_below}
 use Rattle.sq_circuit.specs.Circuits.{are_sound, has_fault, is_sound, lists_too_many, has_number_outside, owner_at, owner_in, verdict, whole, whole_from}
-use Rattle.sq_circuit.specs.Invariant.{AreEarlier, IsCircuit, IsEarlier, IsOwned, IsOwnedBelow, IsOwner, IsPart}
-use Rattle.sq_circuit.specs.Nodes.{Rows, Source, Nowhere, Outer, Inner, left_source, none, operator, read, right_source}
+use Rattle.sq_circuit.specs.Invariant.{AreEarlier, IsEarlier, IsOwned, IsOwnedBelow, IsOwner, IsPart}
+use Rattle.sq_circuit.specs.Nodes.{Rows, Source, Nowhere, Outer, Inner, left_source, right_source}
 use Rattle.sq_circuit.specs.declared.circuit.Part.{Part}
 use Rattle.sq_circuit.specs.declared.node.Node.{Node}
 use Rattle.sq_circuit.specs.declared.node.Node.TheVariants.{Table, Linear, Join, Distinct, Aggregate, Plus, Minus, View}
-use Rattle.sq_circuit.proofs.Alongside.{Below, Found, least_agree, least_bound, least_found}
-use Rattle.sq_circuit.proofs.Evaluating.{fault_at, sound_at, sound_is, source_sound, whole_at}
+use Rattle.sq_circuit.proofs.Alongside.{Below, least_agree, least_bound}
+use Rattle.sq_circuit.proofs.Evaluating.{fault_at, sound_at, sound_is, source_sound}
 
 -- a node is a table, which is no place and has no owner, or has one
 pub record IsTableNode (node : Node) (place : Bool) (owner : Option ℕ) : Type 0 where

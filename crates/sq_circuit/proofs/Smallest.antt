@@ -1,10 +1,10 @@
 -- A table and a view of it are a circuit.
-use Rattle.std.proofs.Common.{◌≡◌, ℕ, zero, suc, ◌+◌, ◌<◌, ◌≤◌, ◌^◌, true, false, List, [], ◌∷◌, length, get_or, Some, None, refl, sym, ap, subst, ◌∙◌, arith}
-use Rattle.std.specs.Prelude.{Option, slice_get}
+use Rattle.std.proofs.Common.{◌≡◌, ℕ, zero, suc, false, List, Some, None, refl, sym, subst, ◌∙◌, arith}
+use Rattle.std.specs.Prelude.{slice_get}
 use Rattle.std.proofs.lemmas.Option.{same_Some}
 use Rattle.sq_expr.specs.declared.expr.Kind.{Kind}
 use Rattle.sq_circuit.specs.Circuits.{table_at, whole}
-use Rattle.sq_circuit.specs.Invariant.{AreEarlier, HasKinds, IsCircuit, IsGood, IsListed, IsPart, IsSoundAt, table_and_view}
+use Rattle.sq_circuit.specs.Invariant.{HasKinds, IsCircuit, IsGood, IsListed, IsPart, table_and_view}
 use Rattle.sq_circuit.specs.Nodes.{Rows}
 use Rattle.sq_circuit.specs.declared.circuit.Part.{Part}
 use Rattle.sq_circuit.specs.declared.node.Node.TheVariants.{Table, View}

@@ -15,7 +15,7 @@ use Rattle.sq_ops.specs.Aggregates.{group_of}
 use Rattle.sq_ops.specs.Joins.{key_in}
 use Rattle.sq_ops.specs.declared.aggregate.AggSpec.{AggSpec}
 use Rattle.sq_ops.specs.declared.bilinear.Pairing.{Pairing}
-use Rattle.sq_circuit.specs.Circuits.{table_at, whole_from}
+use Rattle.sq_circuit.specs.Circuits.{whole_from}
 use Rattle.sq_circuit.specs.Nodes.{Rows, Source, left_source, none, right_source}
 use Rattle.sq_circuit.specs.declared.circuit.Part.{Part}
 use Rattle.sq_circuit.specs.declared.node.Node.{Node}

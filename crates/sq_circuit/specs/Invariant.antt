@@ -5,7 +5,7 @@
 --     AreEarlier c            each node reads earlier nodes alone
 --     table_and_view kinds    the circuit of a table and a view of it
 --     IsCircuit c             each part may stand where it does, and sound nodes are bounded over good tables
-use Rattle.std.specs.Prelude.{◌≡◌, ℕ, ◌+◌, ◌<◌, ◌≤◌, ◌^◌, Bool, true, false, List, [], ◌∷◌, filter, length, slice_get, ℤ, pos, ◌-ℤ◌, ◌≤ℤ◌, unsigned_abs, Option, Some, None, ◌⊎◌, ⊤}
+use Rattle.std.specs.Prelude.{◌≡◌, ℕ, ◌+◌, ◌<◌, ◌≤◌, ◌^◌, Bool, true, false, List, [], ◌∷◌, filter, length, slice_get, pos, ◌-ℤ◌, ◌≤ℤ◌, unsigned_abs, Option, Some, None, ◌⊎◌, ⊤}
 use Rattle.std.specs.List.{All}
 use Rattle.sq_value.specs.declared.value.Value.{Value}
 use Rattle.sq_expr.specs.declared.expr.Kind.{Kind}
@@ -15,7 +15,7 @@ use Rattle.sq_algebra.specs.ZSet.{entries, total, weight}
 use Rattle.sq_zset.specs.Collecting.{mass_of}
 use Rattle.sq_ops.specs.Aggregates.{SuitsSpec}
 use Rattle.sq_ops.specs.JoinLaws.{SuitsPairing}
-use Rattle.sq_circuit.specs.Circuits.{has_fault, is_sound, kinds_at, owner_at, table_at, whole}
+use Rattle.sq_circuit.specs.Circuits.{is_sound, kinds_at, owner_at, table_at, whole}
 use Rattle.sq_circuit.specs.LinearOps.{SuitsOp}
 use Rattle.sq_circuit.specs.Nodes.{Rows, Source, Nowhere, Outer, Inner, left_source, right_source}
 use Rattle.sq_circuit.specs.declared.circuit.Part.{Part}

@@ -6,3 +6,4 @@ pub mod Invariant
 pub mod NodeLaws
 pub mod Costs
 pub mod Verdicts
+pub mod Plain

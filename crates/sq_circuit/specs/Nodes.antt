@@ -4,7 +4,7 @@
 --     operator n y z          what the node makes of y on its left and z on its right
 --     standing n, core n y z  what is there of it over no rows, and what its rows add to that, key by key
 --     left_key, right_key n   the key of a row that it reads: the key columns of a Join, the group columns of an Aggregate, and else the row
-use Rattle.std.specs.Prelude.{ℕ, List, [], ◌∷◌}
+use Rattle.std.specs.Prelude.{ℕ, List}
 use Rattle.sq_value.specs.declared.value.Value.{Value}
 use Rattle.sq_value.specs.Order.{row_cmp}
 use Rattle.sq_algebra.specs.Operators.{distinct, image}

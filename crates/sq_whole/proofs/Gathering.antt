@@ -1,13 +1,12 @@
 -- The verdict and the values from what is known of all nodes.
-use Rattle.std.proofs.Common.{◌≡◌, ℕ, zero, suc, ◌+◌, ◌<◌, ◌≤◌, Bool, true, false, cond, List, [], ◌∷◌, ◌++◌, length, get_or, Some, None, refl, sym, ap, ap₂, subst, ◌∙◌, arith}
-use Rattle.std.specs.Prelude.{Option, slice_get}
+use Rattle.std.proofs.Common.{◌≡◌, ℕ, zero, suc, ◌<◌, Bool, true, false, cond, List, [], ◌∷◌, ◌++◌, length, Some, None, refl, sym, ap, ap₂, ◌∙◌, arith}
+use Rattle.std.specs.Prelude.{Option}
 use Rattle.std.specs.List.{flat_map}
-use Rattle.std.proofs.lemmas.Option.{slice_get-get_or}
 use Rattle.std.proofs.lemmas.Grind.{flat_map-append}
 use Rattle.sq_ops.specs.Indexes.{given}
 use Rattle.sq_circuit.specs.Along.{each_below, least_below, lesser}
 use Rattle.sq_circuit.specs.Circuits.{is_sound, known, owner_at, verdict, whole}
-use Rattle.sq_circuit.specs.Invariant.{IsCircuit, IsGood}
+use Rattle.sq_circuit.specs.Invariant.{IsCircuit}
 use Rattle.sq_circuit.specs.Nodes.{Rows}
 use Rattle.sq_circuit.specs.declared.circuit.Part.{Part}
 use Rattle.sq_circuit.proofs.Alongside.{each_at}

@@ -1,11 +1,10 @@
 -- What is known of a node, from what is known of the nodes that it reads.
-use Rattle.std.proofs.Common.{◌≡◌, ℕ, zero, suc, ◌+◌, ◌<◌, ◌≤◌, Bool, true, false, not, ◌&&◌, ◌||◌, cond, List, [], ◌∷◌, length, get_or, Some, None, refl, sym, ap, ap₂, subst, ◌∙◌, arith}
+use Rattle.std.proofs.Common.{◌≡◌, ℕ, ◌<◌, Bool, true, false, not, ◌&&◌, ◌||◌, cond, List, [], ◌∷◌, length, get_or, Some, None, refl, sym, ap, ap₂, subst, ◌∙◌, arith}
 use Rattle.std.specs.Prelude.{Option, slice_get}
-use Rattle.std.proofs.lemmas.Option.{same_Some, slice_get_within, slice_get-get_or}
-use Rattle.sq_zset.specs.Range.{IsInRange}
-use Rattle.sq_circuit.specs.Circuits.{fault_of, has_fault, has_number_outside, is_sound, known, lists_too_many, node_at, node_in, place_at, place_in, whole, whole_from}
+use Rattle.std.proofs.lemmas.Option.{same_Some, slice_get-get_or}
+use Rattle.sq_circuit.specs.Circuits.{has_number_outside, is_sound, known, lists_too_many, node_at, node_in, place_at, place_in, whole, whole_from}
 use Rattle.sq_circuit.specs.Invariant.{IsBounded, IsCircuit, IsGood}
-use Rattle.sq_circuit.specs.Nodes.{Rows, Source, Nowhere, Outer, Inner, left_source, none, operator, right_source}
+use Rattle.sq_circuit.specs.Nodes.{Rows, Source, Nowhere, Outer, Inner, left_source, operator, right_source}
 use Rattle.sq_circuit.specs.declared.circuit.Part.{Part}
 use Rattle.sq_circuit.specs.declared.node.Node.{Node}
 use Rattle.sq_circuit.proofs.Bounding.{bounded_in_range}

@@ -1,24 +1,23 @@
 -- What a node reads while a circuit is evaluated: the values of earlier nodes.
-use Rattle.std.proofs.Common.{◌≡◌, ℕ, zero, suc, ◌+◌, ◌<◌, ◌≤◌, Bool, true, false, List, [], ◌∷◌, length, get_or, Some, None, refl, sym, ap, ap₂, subst, ◌∙◌, arith}
-use Rattle.std.specs.Prelude.{Option, Result, Ok, Err, IfOk, IfSome, slice_get, ⊤}
-use Rattle.std.proofs.lemmas.Option.{get_or_from_slice_get, same_Some, slice_get_within, slice_get-get_or}
+use Rattle.std.proofs.Common.{◌≡◌, ℕ, ◌<◌, List, length, get_or, Some, None, refl, sym, ap, subst, ◌∙◌, arith}
+use Rattle.std.specs.Prelude.{Option, Result, Ok, Err, IfOk, IfSome}
+use Rattle.std.proofs.lemmas.Option.{get_or_from_slice_get, slice_get-get_or}
 use mathlib.Core.Logic.{inl, inr}
 use Rattle.sq_value.specs.declared.memory.NoMemory.{NoMemory}
 use Rattle.sq_expr.specs.declared.expr.Kind.{Kind}
-use Rattle.sq_algebra.specs.ZSet.{entries}
 use Rattle.sq_ops.specs.Aggregates.{SuitsSpec}
 use Rattle.sq_ops.specs.Fits.{FitsRows}
 use Rattle.sq_ops.specs.declared.aggregate.AggSpec.{AggSpec}
 use Rattle.sq_ops.specs.declared.bilinear.Pairing.{Pairing}
 use Rattle.sq_circuit.specs.Along.{each_below}
-use Rattle.sq_circuit.specs.Circuits.{has_number_outside, kinds_at, kinds_in, known, node_at, table_at}
-use Rattle.sq_circuit.specs.Invariant.{HasKinds, IsBounded, IsCircuit, IsEarlier, IsGood, IsInOrder, IsListed, NeedsListed, TakesKinds, table_count}
+use Rattle.sq_circuit.specs.Circuits.{has_number_outside, kinds_at, kinds_in, known, node_at}
+use Rattle.sq_circuit.specs.Invariant.{HasKinds, IsBounded, IsCircuit, IsEarlier, IsGood, IsInOrder, IsListed, NeedsListed, TakesKinds}
 use Rattle.sq_circuit.specs.LinearOps.{SuitsOp}
-use Rattle.sq_circuit.specs.Nodes.{Rows, Source, Nowhere, Outer, Inner, left_source, operator, right_source}
+use Rattle.sq_circuit.specs.Nodes.{Rows, Source, Inner, left_source, operator, right_source}
 use Rattle.sq_circuit.specs.declared.circuit.Part.{Part}
 use Rattle.sq_circuit.specs.declared.node.LinearOp.{LinearOp}
 use Rattle.sq_circuit.specs.declared.node.Node.{Node}
-use Rattle.sq_circuit.specs.declared.node.Node.TheVariants.{Table, Linear, Join, Distinct, Aggregate, Plus, Minus, View}
+use Rattle.sq_circuit.specs.declared.node.Node.TheVariants.{Table, Linear, Join, Aggregate}
 use Rattle.sq_circuit.proofs.Alongside.{each-length, each_at}
 use Rattle.sq_whole.specs.Answers.{AnswersNode, FitsPairing, IsAnswer, IsAnswerAt, known_from}
 use Rattle.sq_whole.proofs.Knowing.{PartAt, known_bounded, part_of_node}
@@ -131,10 +130,10 @@ module _ (c : List Part) (tables : List Rows) (values : List (Option Rows)) (i :
             right = kinds_at c r;
             suitable = takes c tables values i (Join l r op) here;
             left_of_kinds = has_kinds c tables values i (Join l r op) here l x left_less (sym a);
-            right_of_kinds = has_kinds c tables values i (Join l r op) here r y right_less (sym b)
+            right_of_kinds = has_kinds c tables values i (Join l r op) here r y right_less (sym b);
           };
           left = listed c tables values i (Join l r op) here l x left_less (inl refl) (sym a);
-          right = listed c tables values i (Join l r op) here r y right_less (inr refl) (sym b)
+          right = listed c tables values i (Join l r op) here r y right_less (inr refl) (sym b);
         }
 
     pub join_fits : (x y : Option Rows) → x ≡ get_or values l x → y ≡ get_or values r y → FitsPairing op x y

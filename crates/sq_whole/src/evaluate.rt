@@ -20,11 +20,7 @@ use std::alloc::Global;
 /// of at most 2^61. The answer is `Range` exactly if a node has a fault, a place with more than 2^61 rows or a number
 /// outside BIGINT, and names the least view that such a node belongs to; and `Memory` when memory runs out. Each node is
 /// evaluated once, from the Z-sets of the nodes that it reads as they stand.
-pub fn whole_eval(
-    alloc: Global,
-    circuit: &Circuit,
-    tables: &[ZSet],
-) -> Result<Vec<ZSet>, EvalFault>
+pub fn whole_eval(alloc: Global, circuit: &Circuit, tables: &[ZSet]) -> Result<Vec<ZSet>, EvalFault>
     requires { IsGood circuit.now tables.now }
     ensures ok { IfOk result (λ values. values.items ≡ each_below (whole circuit.now tables.now) (length circuit.now)) }
     ensures in_range { OnOk result (verdict circuit.now tables.now ≡ None) }

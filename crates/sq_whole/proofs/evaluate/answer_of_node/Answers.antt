@@ -1,8 +1,8 @@
 -- Each arm reads earlier nodes, and answers for the node.
-use Rattle.std.proofs.Common.{◌≡◌, ℕ, Some, refl, sym, ap, ◌∙◌}
+use Rattle.std.proofs.Common.{Some, refl, ap, ◌∙◌}
 use Rattle.sq_circuit.specs.Nodes.{none}
-use Rattle.sq_circuit.specs.declared.node.Node.TheVariants.{Table, Linear, Join, Distinct, Aggregate, Plus, Minus, View}
-use Rattle.sq_whole.proofs.Reading.{Here, aggregate_fits, aggregate_listed, answers, join_fits, left_bound, left_value, linear_fits, right_bound, right_value, table_bound}
+use Rattle.sq_circuit.specs.declared.node.Node.TheVariants.{Linear, Join, Distinct, Aggregate, Plus, Minus, View}
+use Rattle.sq_whole.proofs.Reading.{aggregate_fits, aggregate_listed, answers, join_fits, left_bound, left_value, linear_fits, right_bound, right_value, table_bound}
 use Rattle.sq_whole.proofs.evaluate.answer_of_node.Goals as goal
 
 pub bounds-tables-table : goal.bounds-tables-table

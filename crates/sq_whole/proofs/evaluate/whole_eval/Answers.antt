@@ -1,5 +1,5 @@
 -- What is known of all nodes gives the verdict, and with no verdict all values.
-use Rattle.std.proofs.Common.{◌≡◌, ℕ, length, Some, None, sym, ap, ◌∙◌}
+use Rattle.std.proofs.Common.{◌≡◌, length, Some, sym, ap, ◌∙◌}
 use Rattle.sq_circuit.specs.Circuits.{known}
 use Rattle.sq_circuit.proofs.Alongside.{each-length}
 use Rattle.sq_whole.proofs.Gathering.{all_values, missing_verdict}
