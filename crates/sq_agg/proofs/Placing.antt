@@ -24,7 +24,7 @@ use Rattle.sq_algebra.proofs.Weights.{same_weights, weight-of_list}
 use Rattle.sq_ops.specs.declared.aggregate.AggSpec.{AggSpec}
 use Rattle.sq_ops.specs.Aggregates.{group_of, groups_of}
 use Rattle.sq_ops.specs.Indexes.{entries_at, with_key}
-use Rattle.sq_ops.specs.Joins.{columns_of}
+use Rattle.sq_expr.specs.Meaning.{columns_of}
 use Rattle.sq_ops.proofs.Indexed.{Indexed, all_rows, none_indexed, one_indexed, places_in_range}
 use Rattle.sq_ops.proofs.Lists.{take_more}
 use Rattle.sq_agg.specs.ByKey.{places_of}

@@ -14,7 +14,7 @@ use Rattle.sq_value.specs.declared.value.Value.{Value}
 use Rattle.sq_value.specs.declared.value.Value.TheVariants.{Null, Int, Text}
 use Rattle.sq_expr.specs.Items.{IsStorable}
 use Rattle.sq_expr.specs.Kinds.{AreOfKinds, IsOfKind}
-use Rattle.sq_expr.specs.Meaning.{column_of, is_null, num}
+use Rattle.sq_expr.specs.Meaning.{column_of, is_null, num, columns_of}
 use Rattle.sq_expr.specs.Bigint.{first_not_bigint, is_bigint}
 use Rattle.sq_expr.specs.declared.cond.Cond.{Cond}
 use Rattle.sq_expr.specs.declared.expr.Expr.{Expr}
@@ -27,7 +27,7 @@ use Rattle.sq_expr.proofs.Rows.{kind_of_column, kinds_joined, kinds_of_nulls, nu
 use Rattle.sq_algebra.specs.Operators.{distinct, image, pairs_where, where_same}
 use Rattle.sq_algebra.specs.ZSet.{entries, minus, plus, total}
 use Rattle.sq_ops.specs.Extensions.{first_value_outside}
-use Rattle.sq_ops.specs.Joins.{chosen, columns_of, key_in}
+use Rattle.sq_ops.specs.Joins.{chosen, key_in}
 use Rattle.sq_ops.specs.Rows.{holds, items_of, kept, numbers_of, padded}
 use Rattle.sq_ops.specs.declared.bilinear.Pairing.{Pairing}
 use Rattle.sq_ops.proofs.Ranges.{items_stored, none_of_each}

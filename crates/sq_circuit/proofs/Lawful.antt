@@ -6,7 +6,7 @@ use Rattle.std.proofs.lemmas.Option.{cond_some}
 use Rattle.sq_value.specs.declared.value.Value.{Value}
 use Rattle.sq_value.specs.Order.{row_cmp}
 use Rattle.sq_value.specs.OrderLaws.{row_cmp-total, row_cmp-antisymmetric}
-use Rattle.sq_expr.specs.Meaning.{column_of, is_null}
+use Rattle.sq_expr.specs.Meaning.{column_of, is_null, columns_of}
 use Rattle.sq_algebra.specs.Groups.{IsAdditive, sum_over, z_sets}
 use Rattle.sq_algebra.specs.Keyed.{CoversOnce, Shards, at_key, by_key, cut, over_shards}
 use Rattle.sq_algebra.specs.Operators.{distinct, image, pairs_where}
@@ -18,7 +18,7 @@ use Rattle.sq_algebra.proofs.OperatorLemmas.{image-IsAdditive, product-left, pro
 use Rattle.sq_algebra.proofs.ShardLemmas.{additive_cuts, at_one_shard, by_key_cuts, product_some_cuts}
 use Rattle.sq_zset.specs.GroupLaws.{rows_are_abelian}
 use Rattle.sq_ops.specs.Aggregates.{aggregated, group_of, part_of}
-use Rattle.sq_ops.specs.Joins.{chosen, columns_of, key_in}
+use Rattle.sq_ops.specs.Joins.{chosen, key_in}
 use Rattle.sq_ops.specs.WholeLaws.{aggregates_add_up}
 use Rattle.sq_ops.specs.Wholes.{beyond_none}
 use Rattle.sq_ops.specs.declared.aggregate.AggSpec.{AggSpec}

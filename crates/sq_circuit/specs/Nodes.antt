@@ -10,7 +10,8 @@ use Rattle.sq_value.specs.Order.{row_cmp}
 use Rattle.sq_algebra.specs.Operators.{distinct, image}
 use Rattle.sq_algebra.specs.ZSet.{ZSet, zero, plus, minus}
 use Rattle.sq_ops.specs.Aggregates.{aggregated, group_of, part_of}
-use Rattle.sq_ops.specs.Joins.{chosen, columns_of, joined, key_in}
+use Rattle.sq_ops.specs.Joins.{chosen, joined, key_in}
+use Rattle.sq_expr.specs.Meaning.{columns_of}
 use Rattle.sq_ops.specs.Wholes.{standing_rows}
 use Rattle.sq_ops.specs.declared.aggregate.AggSpec.{AggSpec}
 use Rattle.sq_ops.specs.declared.bilinear.Pairing.{Pairing}

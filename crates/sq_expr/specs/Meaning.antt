@@ -1,5 +1,5 @@
 -- What an expression and a condition are on a row. Numbers have no bound.
-use Rattle.std.specs.Prelude.{ℕ, ℤ, pos, ◌+ℤ◌, ◌*ℤ◌, neg_ℤ, Bool, true, false, not, if◌then◌else◌, List, fold, slice_get, unwrap_or}
+use Rattle.std.specs.Prelude.{ℕ, ℤ, pos, ◌+ℤ◌, ◌*ℤ◌, neg_ℤ, Bool, true, false, not, if◌then◌else◌, List, fold, map, slice_get, unwrap_or}
 use Rattle.std.specs.Ordering.{is_eq, is_lt, is_le, is_gt, is_ge}
 use Rattle.std.specs.declared.cmp.Ordering.{Ordering}
 use Rattle.sq_value.specs.declared.tri.Tri.{Tri}
@@ -25,6 +25,10 @@ use Rattle.sq_expr.specs.declared.expr.Term.{Term}
 -- the value in a column; a column that is not there reads as NULL
 abbrev pub column_of : List Value → ℕ → Value
 column_of row n = unwrap_or (slice_get row n) Null
+
+-- the values in these columns
+abbrev pub columns_of : List ℕ → List Value → List Value
+columns_of columns row = map (column_of row) columns
 
 -- the number with its sign turned; NULL where there is no number
 abbrev pub negative : Value → Value

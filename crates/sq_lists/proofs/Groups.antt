@@ -3,11 +3,11 @@ use Rattle.std.proofs.Common.{◌≡◌, ℕ, List, [], ◌∷◌, map, filter, 
 use Rattle.std.specs.Prelude.{Option, Some, None}
 use Rattle.std.specs.List.{AllByRecursion, flat_map, list_any}
 use Rattle.sq_expr.specs.declared.expr.Expr.{Expr}
-use Rattle.sq_expr.specs.Meaning.{num}
+use Rattle.sq_expr.specs.Meaning.{num, columns_of}
 use Rattle.sq_expr.proofs.Lists.{all_weaker}
 use Rattle.sq_typed.specs.declared.query.BlockCall.{BlockCall}
 use Rattle.sq_typed.specs.declared.query.Grouping.{Grouping}
-use Rattle.sq_typed.specs.Blocks.{arguments, call_value, columns_of, groups, is_sum, tested_calls}
+use Rattle.sq_typed.specs.Blocks.{arguments, call_value, groups, is_sum, tested_calls}
 use Rattle.std.specs.Ordering.{is_eq}
 use Rattle.sq_algebra.specs.Listed.{first_of_each}
 use Rattle.sq_value.specs.Order.{row_cmp}

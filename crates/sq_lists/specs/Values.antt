@@ -10,7 +10,8 @@ use Rattle.sq_value.specs.declared.value.Value.{Value}
 use Rattle.sq_value.specs.declared.value.Value.TheVariants.{Null, Int}
 use Rattle.sq_value.specs.Order.{row_cmp, value_cmp}
 use Rattle.sq_typed.specs.declared.query.BlockCall.{BlockCall}
-use Rattle.sq_typed.specs.Blocks.{arguments, call_value, columns_of, is_sum, present, sum_or_null}
+use Rattle.sq_typed.specs.Blocks.{arguments, call_value, is_sum, present, sum_or_null}
+use Rattle.sq_expr.specs.Meaning.{columns_of}
 use Rattle.sq_expr.specs.Extremes.{greatest_or_null, least_or_null}
 use Rattle.sq_typed.specs.From.{Row}
 use Rattle.sq_typed.specs.Queries.{is_outside}

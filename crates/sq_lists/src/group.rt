@@ -3,9 +3,9 @@ ghost use Rattle.std.specs.Prelude.{◌≡◌, ◌++◌, ◌∷◌, [], filter, 
 ghost use Rattle.std.specs.List.{AllByRecursion, flat_map, list_any};
 ghost use Rattle.std.specs.Ordering.{is_eq};
 ghost use Rattle.sq_expr.specs.Fits.{Fits};
-ghost use Rattle.sq_expr.specs.Meaning.{column_of, num};
+ghost use Rattle.sq_expr.specs.Meaning.{column_of, num, columns_of};
 ghost use Rattle.sq_lists.specs.Values.{ArgumentFits, groups_at, is_argument_outside, is_call_outside, is_group_outside, rows_at};
-ghost use Rattle.sq_typed.specs.Blocks.{call_value, columns_of, group_row, groups, selected, tested_calls};
+ghost use Rattle.sq_typed.specs.Blocks.{call_value, group_row, groups, selected, tested_calls};
 ghost use Rattle.sq_typed.specs.Queries.{is_outside};
 ghost use Rattle.sq_value.specs.Order.{row_cmp};
 

@@ -25,7 +25,7 @@ use Rattle.sq_algebra.proofs.PairLemmas.{zero_from}
 use borrow.Author.Differences.{ints}
 use Rattle.sq_expr.specs.declared.expr.Func.{Func}
 use Rattle.sq_expr.specs.declared.expr.Func.TheVariants.{CountAll, Count, Sum, Min, Max}
-use Rattle.sq_expr.specs.Meaning.{column_of}
+use Rattle.sq_expr.specs.Meaning.{column_of, columns_of}
 use Rattle.sq_zset.proofs.RowOperators.{keep-of_list, lin-of_list, product-of_list}
 use Rattle.sq_zset.proofs.RowKeys.{by_key_over}
 use Rattle.sq_zset.proofs.Rows.{total-of_list}
@@ -34,7 +34,7 @@ use Rattle.sq_ops.specs.declared.aggregate.AggSpec.{AggSpec}
 use Rattle.sq_ops.specs.declared.aggregate.Call.{Call}
 use Rattle.sq_ops.specs.Aggregates.{aggregated, call_value, count_in, group_of, greater, group_row, has_value, lesser, number_at, part_of, values_in}
 use Rattle.sq_ops.specs.declared.bilinear.Pairing.{Pairing}
-use Rattle.sq_ops.specs.Joins.{chosen, columns_of, joined, key_in}
+use Rattle.sq_ops.specs.Joins.{chosen, joined, key_in}
 use Rattle.sq_ops.specs.Lists.{all_pairs, group_of_list, is_joined, is_same_key, list_value, row_of_list, row_of_pair, rows_by_keys}
 use Rattle.sq_ops.specs.Rows.{holds}
 use Rattle.sq_ops.specs.WholeLaws.{grouped_by_key, one_of_all, part_is_nothing_for_none}

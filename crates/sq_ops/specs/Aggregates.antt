@@ -18,11 +18,10 @@ use Rattle.sq_expr.specs.declared.expr.Func.{Func}
 use Rattle.sq_expr.specs.declared.expr.Func.TheVariants.{CountAll, Count, Sum, Min, Max}
 use Rattle.sq_expr.specs.declared.expr.Kind.{Kind}
 use Rattle.sq_expr.specs.declared.expr.Kind.TheVariants as kind
-use Rattle.sq_expr.specs.Meaning.{column_of, is_null}
+use Rattle.sq_expr.specs.Meaning.{column_of, is_null, columns_of}
 use Rattle.sq_ops.specs.declared.aggregate.AggSpec.{AggSpec}
 use Rattle.sq_ops.specs.declared.aggregate.Call.{Call}
 use Rattle.sq_expr.specs.Bigint.{is_bigint}
-use Rattle.sq_ops.specs.Joins.{columns_of}
 use Rattle.sq_ops.specs.Wholes.{has_no_values}
 
 -- ---- values

@@ -25,12 +25,12 @@ use Rattle.sq_zset.specs.Loops.{nested_loops}
 use Rattle.sq_expr.specs.declared.expr.Func.{Func}
 use Rattle.sq_expr.specs.declared.expr.Func.TheVariants.{CountAll, Count, Sum, Min, Max}
 use Rattle.sq_expr.specs.Extremes.{greatest_or_null, least_or_null}
-use Rattle.sq_expr.specs.Meaning.{column_of, is_null}
+use Rattle.sq_expr.specs.Meaning.{column_of, is_null, columns_of}
 use Rattle.sq_ops.specs.declared.aggregate.AggSpec.{AggSpec}
 use Rattle.sq_ops.specs.declared.aggregate.Call.{Call}
 use Rattle.sq_ops.specs.declared.bilinear.Pairing.{Pairing}
 use Rattle.sq_ops.specs.Aggregates.{group_of, has_value, number_at}
-use Rattle.sq_ops.specs.Joins.{columns_of, joined, key_in}
+use Rattle.sq_ops.specs.Joins.{joined, key_in}
 use Rattle.sq_ops.specs.Rows.{Row, holds}
 use Rattle.sq_ops.specs.Wholes.{has_no_values}
 

@@ -18,7 +18,7 @@ use Rattle.sq_zset.specs.GroupLaws.{rows_are_abelian}
 use Rattle.sq_ops.specs.declared.aggregate.AggSpec.{AggSpec}
 use Rattle.sq_ops.specs.declared.aggregate.Call.{Call}
 use Rattle.sq_ops.specs.Aggregates.{aggregated, group_of, group_row, part_of, rows_of_group}
-use Rattle.sq_ops.specs.Joins.{columns_of}
+use Rattle.sq_expr.specs.Meaning.{columns_of}
 use Rattle.sq_ops.specs.Wholes.{IsNothingForNone, beyond_none, has_no_values, sum_of_parts}
 
 -- ---- parts that are empty over no rows

@@ -14,12 +14,12 @@ use Rattle.sq_ast.specs.declared.query.SetOp.{SetOp}
 use Rattle.sq_ast.specs.declared.query.SetOp.TheVariants.{UnionAll, Union, Except}
 use Rattle.sq_expr.specs.declared.cond.Cond.{Cond}
 use Rattle.sq_expr.specs.declared.expr.Expr.{Expr}
-use Rattle.sq_expr.specs.Meaning.{num, column_of}
+use Rattle.sq_expr.specs.Meaning.{num, column_of, columns_of}
 use Rattle.sq_expr.proofs.Lists.{all_append}
 use Rattle.sq_typed.specs.declared.query.BlockCall.{BlockCall}
 use Rattle.sq_typed.specs.declared.query.Grouping.{Grouping}
 use Rattle.sq_typed.specs.From.{Row, Answer, Source, all_hold, members_of, kept}
-use Rattle.sq_typed.specs.Blocks.{call_value, columns_of, groups, group_row, item_rows, selected, without_repeats, block_answer}
+use Rattle.sq_typed.specs.Blocks.{call_value, groups, group_row, item_rows, selected, without_repeats, block_answer}
 use Rattle.sq_typed.specs.Queries.{set_rows, intersect_rows, chain_answer, intersect_answer}
 use Rattle.sq_typed.specs.Laws.{AreOfWidth, HasItsWidth}
 use Rattle.sq_typed.proofs.Tests.{every, all_filter}

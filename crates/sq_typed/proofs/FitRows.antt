@@ -21,7 +21,7 @@ use Rattle.sq_expr.specs.declared.expr.Kind.{Kind}
 use Rattle.sq_expr.specs.declared.expr.Kind.TheVariants as kind
 use Rattle.sq_expr.specs.declared.expr.Term.{Term}
 use Rattle.sq_expr.specs.Kinds.{IsOfKind, AreOfKinds}
-use Rattle.sq_expr.specs.Meaning.{column_of, negative, of_both, sum_of, product_of, num, term_num, is_null}
+use Rattle.sq_expr.specs.Meaning.{column_of, negative, of_both, sum_of, product_of, num, term_num, is_null, columns_of}
 use Rattle.sq_expr.proofs.Equations.{num-Column, num-Number, num-Text, num-Neg, num-Sum, num-Product}
 use Rattle.sq_expr.proofs.Lists.{all_front, all_back, all_flat, all_flattened, all_weaker}
 use Rattle.sq_expr.proofs.Rows.{kinds_joined, kinds_of_nulls}
@@ -29,7 +29,7 @@ use Rattle.sq_typed.specs.declared.query.BlockCall.{BlockCall}
 use Rattle.sq_typed.specs.declared.query.FromJoin.{FromJoin}
 use Rattle.sq_typed.specs.declared.query.FromJoin.TheVariants.{Comma, Inner, Left}
 use Rattle.sq_typed.specs.declared.query.Grouping.{Grouping}
-use Rattle.sq_typed.specs.Blocks.{present, sum_or_null, arguments, call_value, is_sum, columns_of, groups, group_row, item_rows, selected, without_repeats, tested_calls}
+use Rattle.sq_typed.specs.Blocks.{present, sum_or_null, arguments, call_value, is_sum, groups, group_row, item_rows, selected, without_repeats, tested_calls}
 use Rattle.sq_typed.specs.Fit.{grouped_kinds, AreAllOfKinds, GivesKinds, SourceGivesKinds, Pairwise}
 use Rattle.sq_typed.specs.From.{Row, Answer, Source, all_hold, members_of, matches, or_padded, inner, joined_by, from, kept}
 use Rattle.sq_typed.specs.Numbered.{kind_step, kind_of, call_kind}

@@ -11,7 +11,7 @@ use Rattle.sq_expr.specs.declared.expr.Expr.{Expr}
 use Rattle.sq_expr.specs.declared.expr.Func.{Func}
 use Rattle.sq_expr.specs.declared.expr.Func.TheVariants.{CountAll, Count, Sum, Min, Max}
 use Rattle.sq_expr.specs.Extremes.{greatest_or_null, least_or_null}
-use Rattle.sq_expr.specs.Meaning.{num, column_of, sum_of, is_null}
+use Rattle.sq_expr.specs.Meaning.{num, columns_of, sum_of, is_null}
 use Rattle.sq_typed.specs.declared.query.Grouping.{Grouping}
 use Rattle.sq_typed.specs.declared.query.BlockCall.{BlockCall}
 use Rattle.sq_typed.specs.From.{Row, Answer, Source, all_hold, members_of, kept, stages}
@@ -48,10 +48,6 @@ is_sum Min = false
 is_sum Max = false
 
 -- ---- groups
-
--- the values in these columns
-abbrev pub columns_of : List ℕ → Row → Row
-columns_of columns row = map (column_of row) columns
 
 -- the rows by the values in the group columns, in order of first appearance; with no group column all of them, also where there are none
 abbrev pub groups : List ℕ → List Row → List (Row × List Row)

@@ -1,5 +1,5 @@
 use Rattle.std.proofs.Common.{◌≡◌, take}
-use Rattle.sq_typed.specs.Blocks.{columns_of}
+use Rattle.sq_expr.specs.Meaning.{columns_of}
 use Rattle.sq_lists.proofs.group.key_of.Given as goal
 
 abbrev pub invariant-loop-column : goal.invariant-loop-column

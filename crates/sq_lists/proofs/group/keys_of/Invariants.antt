@@ -1,5 +1,5 @@
 use Rattle.std.proofs.Common.{◌≡◌, take, map}
-use Rattle.sq_typed.specs.Blocks.{columns_of}
+use Rattle.sq_expr.specs.Meaning.{columns_of}
 use Rattle.sq_lists.proofs.group.keys_of.Given as goal
 
 abbrev pub invariant-loop-row : goal.invariant-loop-row
