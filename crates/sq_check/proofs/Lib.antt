@@ -11,6 +11,7 @@ pub mod QueriesLoops
 pub mod QueriesGiven
 pub mod QueriesPlaces
 pub mod QueriesTypedLemmas
+pub mod QueriesSmall
 pub mod QueriesKinds
 pub mod QueriesProgram
 pub mod QueriesSpelled

@@ -67,7 +67,7 @@ heads_repeat (Front n) leftmost p h = h
 abbrev head_test : Resolved → Bool
 head_test m = list_any has_same_columns m.parts.heads
 
-operation_heads : (ms : List Resolved) → list_any has_same_columns (operation_parts ms).heads ≡ list_any head_test ms
+pub operation_heads : (ms : List Resolved) → list_any has_same_columns (operation_parts ms).heads ≡ list_any head_test ms
 operation_heads ms =
     heads_together (record { blocks = []; heads = []; relations = []; operations = map (λ m. m.columns) ms ∷ [] } ∷ map (λ (m : Resolved). m.parts) ms)
     ∙ any_map (λ p. list_any has_same_columns p.heads) (λ (m : Resolved). m.parts) ms

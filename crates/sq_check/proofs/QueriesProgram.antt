@@ -10,13 +10,18 @@ use Rattle.sq_ast.specs.declared.statement.Statement.{Statement}
 use Rattle.sq_catalog.specs.Names.{is_named}
 use Rattle.sq_catalog.specs.declared.relation.Relation.{Relation}
 use Rattle.sq_typed.specs.Checked.{Spelling, IsChecked}
-use Rattle.sq_typed.specs.Faults.{Described, described, has, has_same_sources, first_kind, first_fault, or_later, refused_from, refused, has_long_list}
+use Rattle.sq_typed.specs.Faults.{Described, described, has, has_same_sources, kinds_in_order, names, first_kind, first_fault, or_later, refused_from, refused, has_long_list}
 use Rattle.sq_typed.specs.Programs.{with_body, program_of, Typed}
+use Rattle.sq_typed.specs.Scopes.{repeats}
+use Rattle.sq_typed.specs.Sizes.{AreNarrow}
 use Rattle.sq_typed.specs.Views.{Meant}
 use Rattle.sq_typed.specs.declared.check_kind.CheckKind.{CheckKind}
 use Rattle.sq_typed.specs.declared.limits.TheConstants.{MOST_COLUMNS, MOST_STATEMENTS}
 use Rattle.sq_typed.specs.declared.check_kind.CheckKind.TheVariants as kind
-use Rattle.sq_check.proofs.QueriesAdded.{or_left}
+use Rattle.sq_expr.proofs.Lists.{all_append}
+use Rattle.std.proofs.lemmas.Bool.{ltb-false}
+use Rattle.sq_check.specs.QueriesFound.{has_same_columns}
+use Rattle.sq_check.proofs.QueriesAdded.{or_left, or_right}
 use Rattle.sq_check.proofs.QueriesGiven.{whole}
 
 abbrev start : Meant
@@ -27,9 +32,10 @@ pub record ProgramSoFar (statements : List Statement) (i : ℕ) (program : Meant
   pub made : program ≡ program_of (take i statements)
   pub later : refused_from (take i statements) (drop i statements) ≡ refused statements
   pub few : i ≤ length statements
+  pub narrow : AreNarrow program.catalog
 
 pub nothing_yet : (statements : List Statement) (program : Meant) → program ≡ record { catalog = []; queries = [] } → ProgramSoFar statements 0 program
-nothing_yet statements program is = record { made = is; later = refl; few = omega arith }
+nothing_yet statements program is = record { made = is; later = refl; few = omega arith; narrow = subst (λ (p : Meant). AreNarrow p.catalog) (sym is) tt }
 
 drop_at : {A : Type 0} (xs : List A) (i : ℕ) (x : A) → i < length xs → x ≡ get_or xs i x → drop i xs ≡ x ∷ drop (suc i) xs
 drop_at [] i x below at = absurd (omega (arith, below))
@@ -45,6 +51,33 @@ taken : {A : Type 0} (xs : List A) (i : ℕ) → i ≤ length xs → length (tak
 taken xs zero h = refl
 taken [] (suc i) h = absurd (omega (arith, h))
 taken (x ∷ xs) (suc i) h = ap suc (taken xs i (omega (arith, h)))
+
+-- ---- what no fault tells
+
+none_found : {A : Type 0} (p : A → Bool) (xs : List A) → find p xs ≡ None → AllByRecursion (λ x. p x ≡ false) xs
+none_found p [] h = tt
+none_found p (x ∷ xs) h = let both = split (p x) (find p xs) x h in (both.0, none_found p xs both.1)
+  where
+    split : {A : Type 0} (b : Bool) (rest : Option A) (x : A) → cond b (Some x) rest ≡ None → (b ≡ false) × (rest ≡ None)
+    split true rest x h = absurd (cc h)
+    split false rest x h = (refl, h)
+
+-- no query in FROM has two columns of one name
+pub heads_apart : (i : ℕ) (relations : List Relation) (d : Described) → first_kind relations i d ≡ None → list_any has_same_columns d.parts.heads ≡ false
+unfolding first_kind
+heads_apart i relations d h = or_right (repeats (names d.columns)) (list_any has_same_columns d.parts.heads) (none_found (has relations i d) kinds_in_order h).1.1.1.0
+
+-- and there are no more columns than a relation may have
+few_columns : (i : ℕ) (relations : List Relation) (d : Described) → first_kind relations i d ≡ None → length d.columns ≤ MOST_COLUMNS
+unfolding first_kind
+few_columns i relations d h =
+    let limit = (none_found (has relations i d) kinds_in_order h).1.1.1.1.1.1.1.1.1.1.1.0 in
+    let few = or_right (nat_le MOST_STATEMENTS i) (nat_lt MOST_COLUMNS (length d.columns)) (or_left (nat_le MOST_STATEMENTS i || nat_lt MOST_COLUMNS (length d.columns)) (list_any has_long_list d.parts.blocks) limit) in
+    ltb-false MOST_COLUMNS (length d.columns) few
+
+narrow_more : (p : Meant) (b : Body) → AreNarrow p.catalog → length (described p.catalog b).columns ≤ MOST_COLUMNS → AreNarrow (with_body p b).catalog
+narrow_more p (body.Table name columns) narrow few = all_append (λ (r : Relation). length r.columns ≤ MOST_COLUMNS) p.catalog _ narrow (few, tt)
+narrow_more p (body.View name flavour q) narrow few = all_append (λ (r : Relation). length r.columns ≤ MOST_COLUMNS) p.catalog _ narrow (few, tt)
 
 module _ (statements : List Statement) (i : ℕ) (s : Statement) (below : i < length statements) (at : s ≡ get_or statements i s) (program : Meant) (so : ProgramSoFar statements i program) where
   -- the fault that is asked for is that behind the statements so far
@@ -66,6 +99,7 @@ module _ (statements : List Statement) (i : ℕ) (s : Statement) (below : i < le
         later = ap (λ before. refused_from before (drop (suc i) statements)) (take_at statements i s below at)
             ∙ sym (refused_is ∙ ap (λ o. or_later s.number o (refused_from (take i statements ++ s ∷ []) (drop (suc i) statements))) (sym fault_is ∙ none));
         few = omega (arith, below);
+        narrow = subst (λ (p : Meant). AreNarrow p.catalog) (sym made) (narrow_more program s.body so.narrow (few_columns i program.catalog (described program.catalog s.body) none));
       })
 
 -- ---- as many relations as statements

@@ -6,3 +6,4 @@ pub mod TypesColumns
 pub mod QueriesFound
 pub mod QueriesTyped
 pub mod QueriesFaults
+pub mod QueriesFew

@@ -4,6 +4,7 @@ ghost use Rattle.std.specs.List.{list_any};
 ghost use Rattle.sq_typed.specs.Faults.{has_bare_column};
 ghost use Rattle.sq_typed.specs.Leaves.{exprs_in, exprs_of};
 ghost use Rattle.sq_typed.specs.Selected.{written_out};
+ghost use Rattle.sq_typed.specs.Sizes.{HasFewGroups};
 ghost use Rattle.sq_scope.specs.Scoped.{scoped_by};
 ghost use Rattle.sq_check.specs.TypesBare.{bare_expr, bare_item};
 ghost use Rattle.sq_scope.specs.TypesItems.{chosen_of};
@@ -17,6 +18,7 @@ use std::alloc::Global;
 /// Whether the block is grouped, and a column outside calls in an item or in HAVING is none of GROUP BY. `NoMemory` if
 /// memory runs out.
 pub fn has_bare_column(alloc: Global, scope: &Scope, block: &BlockTree) -> Result<bool, NoMemory>
+    requires { HasFewGroups block.now }
     ensures { IfOk result (λ found. found ≡ has_bare_column (scoped_by scope.now block.now)) }
 {
     if !is_grouped(block) {

@@ -4,6 +4,7 @@ ghost use Rattle.std.specs.List.{flat_map};
 ghost use Rattle.sq_typed.specs.Faults.{has_long_list, names};
 ghost use Rattle.sq_typed.specs.Scopes.{columns_in, repeats};
 ghost use Rattle.sq_typed.specs.Selected.{block_columns, chosen, starred, written_out};
+ghost use Rattle.sq_typed.specs.Sizes.{HasFewGroups};
 ghost use Rattle.sq_scope.specs.Scoped.{scoped_by};
 ghost use Rattle.sq_check.specs.TypesColumns.{GivesDistinct, up_to};
 ghost use Rattle.sq_check.specs.TypesFrames.{frame_column};
@@ -87,6 +88,7 @@ pub fn first_columns(
     block: &BlockTree,
     limit: u128,
 ) -> Result<Items<Column>, NoMemory>
+    requires { HasFewGroups block.now }
     ensures { IfOk result (λ columns. columns ≡ take limit (block_columns (scoped_by scope.now block.now))) }
 {
     let frame = Frame::of(alloc, scope, block)?;
@@ -168,6 +170,7 @@ pub fn distinct_columns(
     scope: &Scope,
     block: &BlockTree,
 ) -> Result<Option<Items<Column>>, NoMemory>
+    requires { HasFewGroups block.now }
     ensures { IfOk result (GivesDistinct (block_columns (scoped_by scope.now block.now))) }
 {
     let frame = Frame::of(alloc, scope, block)?;

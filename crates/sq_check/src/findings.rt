@@ -2,6 +2,7 @@
 ghost use Rattle.std.specs.Prelude.{◌≡◌, ⊤, ◌||◌, OnOk};
 ghost use Rattle.sq_check.specs.QueriesFaults.{first_noted, no_findings};
 ghost use Rattle.sq_check.specs.QueriesFound.{Adds, one_block, with_operand};
+ghost use Rattle.sq_typed.specs.Sizes.{HasFewGroups};
 ghost use Rattle.sq_scope.specs.Scoped.{scoped_by};
 
 use crate::bare::has_bare_column;
@@ -56,6 +57,7 @@ impl Findings {
         scope: &Scope,
         block: &BlockTree,
     ) -> Result<(), NoMemory>
+        requires { HasFewGroups block.now }
         ensures { OnOk result (Adds ⊤ self.old self.new (one_block (scoped_by scope.now block.now))) }
     {
         self.unknown_column |= has_unknown_column(scope, block);

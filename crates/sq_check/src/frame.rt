@@ -3,6 +3,7 @@ ghost use Rattle.std.specs.Prelude.{◌≡◌, IfOk, OnOk};
 ghost use Rattle.std.specs.List.{flat_map};
 ghost use Rattle.sq_typed.specs.Leaves.{exprs_of, leaves};
 ghost use Rattle.sq_typed.specs.Selected.{block_calls, keys};
+ghost use Rattle.sq_typed.specs.Sizes.{HasFewGroups};
 ghost use Rattle.sq_scope.specs.Scoped.{scoped_by};
 ghost use Rattle.sq_check.specs.TypesFrames.{IsFrame, frame_expr, frame_kinds, frame_place};
 ghost use Rattle.sq_scope.specs.TypesGroups.{with_calls};
@@ -34,6 +35,7 @@ impl<'a> Frame<'a> {
         scope: &'a Scope<'a>,
         block: &BlockTree,
     ) -> Result<Frame<'a>, NoMemory>
+        requires { HasFewGroups block.now }
         ensures { IfOk result (λ frame. IsFrame (scoped_by scope.now block.now) frame) }
     {
         let row = Row::of(scope);
@@ -48,7 +50,7 @@ impl<'a> Frame<'a> {
     }
 
     /// The place of a column of the sources, by its number, in the row over which the items are. Takes no memory.
-    pub(crate) fn place_of(&self, number: usize) -> usize
+    pub(crate) fn place_of(&self, number: u32) -> u32
         ensures { result ≡ frame_place self.now number }
     {
         if self.grouped {
@@ -83,6 +85,7 @@ impl<'a> Frame<'a> {
 
 // The columns of GROUP BY and the calls of the block over the row.
 fn groups_of(alloc: Global, row: &Row, block: &BlockTree) -> Result<Groups, NoMemory>
+    requires { HasFewGroups block.now }
     ensures keys { IfOk result (λ groups. groups.keys.numbers ≡ keys (scoped_by row.now block.now)) }
     ensures calls { IfOk result (λ groups. groups.calls ≡ block_calls (scoped_by row.now block.now)) }
 {

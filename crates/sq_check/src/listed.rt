@@ -10,7 +10,7 @@ use crate::frame::Frame;
 use sq_ast::{ExprTree, ItemTree};
 use sq_catalog::Column;
 use sq_expr::{Expr, Kind};
-use sq_scope::{ListItem, Scope, chosen, column_number, kind_at, kind_of};
+use sq_scope::{ListItem, Scope, chosen, kind_at, kind_of};
 use sq_value::{NoMemory, Str};
 use sqlite_items::Items;
 use std::alloc::Global;
@@ -21,9 +21,7 @@ impl<'a> Frame<'a> {
         ensures { IfOk result (λ e. e ≡ frame_item self.now (chosen_of item.now)) }
     {
         match item {
-            ListItem::Starred { number, .. } => {
-                Ok(Expr::Column(column_number(self.place_of(*number))?))
-            }
+            ListItem::Starred { number, .. } => { Ok(Expr::Column(self.place_of(*number))) }
             ListItem::Written { expr, .. } => self.expr(alloc, expr),
         }
     }
@@ -47,7 +45,9 @@ impl<'a> Frame<'a> {
         ensures { IfOk result (λ k. k ≡ kind_of (frame_kinds self.now) (frame_item self.now (chosen_of item.now))) }
     {
         match item {
-            ListItem::Starred { number, .. } => Ok(kind_at(self.kinds(), self.place_of(*number))),
+            ListItem::Starred { number, .. } => {
+                Ok(kind_at(self.kinds(), self.place_of(*number) as usize))
+            }
             ListItem::Written { expr, .. } => {
                 let expr = self.expr(alloc, expr)?;
                 Ok(kind_of(self.kinds(), &expr))

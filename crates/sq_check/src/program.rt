@@ -1,6 +1,6 @@
 //! The program that statements mean, statement by statement.
 ghost use Rattle.std.specs.Prelude.{◌≡◌, ◌<◌, ◌-◌, ◌^◌, ◌++◌, ◌∷◌, [], ℕ, None as Nothing, Some, Err, false, IfErr, IfOk, OnOk, length, map};
-ghost use Rattle.std.specs.List.{AllByRecursion};
+ghost use Rattle.std.specs.List.{AllByRecursion, list_any};
 ghost use Rattle.sq_ast.specs.Sources.{program_sources};
 ghost use Rattle.sq_catalog.specs.Names.{is_named};
 ghost use Rattle.sq_typed.specs.Checked.{Spelling};
@@ -8,6 +8,8 @@ ghost use Rattle.sq_typed.specs.Faults.{described, first_kind, refused};
 ghost use Rattle.sq_typed.specs.Programs.{Typed, is_printed, kind_named, table_column, with_body};
 ghost use Rattle.sq_typed.specs.Sources.{sources_in};
 ghost use Rattle.sq_typed.specs.declared.check_kind.CheckKind.{CheckKind as Kinds};
+ghost use Rattle.sq_check.specs.QueriesFew.{Small, body_size};
+ghost use Rattle.sq_check.specs.QueriesFound.{has_same_columns};
 ghost use Rattle.sq_check.specs.declared.program.CheckFault.TheVariants.{Fault, Memory};
 
 use crate::statement::first_fault;
@@ -40,8 +42,8 @@ impl From<NoMemory> for CheckFault {
 /// The program that the statements mean, if none of them has a fault; else the first that has one, by its number, with the
 /// first kind of fault that it has. `CheckFault::Memory` says that memory ran out, and nothing of the statements.
 ///
-/// Each of the statements is spelled by some tokens. The time and the memory are about in proportion to the text of the
-/// statements and to what their `*` stand for, of which at most as many columns are made as have different names.
+/// Each of the statements is spelled by some tokens, fewer than 2^27. The time and the memory are about in proportion to the
+/// text of the statements and to what their `*` stand for, of which at most as many columns are made as have different names.
 pub fn check(alloc: Global, statements: &[Statement]) -> Result<Program, CheckFault>
     requires spelled { AllByRecursion Spelling statements.now }
     ensures accepted { IfOk result (λ program. refused statements.now ≡ Nothing) }
@@ -65,7 +67,8 @@ fn add_statement(
     before: usize,
     statement: &Statement,
 ) -> Result<(), CheckFault>
-    requires { length catalog.old ≡ before }
+    requires small { Small catalog.old (body_size statement.now.body) }
+    requires before { length catalog.old ≡ before }
     ensures fault { IfErr result (λ fault. (number : ℕ) (kind : Kinds) → fault ≡ Fault number kind → (number ≡ statement.now.number) × (first_kind catalog.old before (described catalog.old statement.now.body) ≡ Some kind)) }
     ensures none { OnOk result (first_kind catalog.old before (described catalog.old statement.now.body) ≡ Nothing) }
     ensures added { OnOk result (record { catalog = catalog.new; queries = queries.new } ≡ with_body (record { catalog = catalog.old; queries = queries.old }) statement.now.body) }
@@ -86,6 +89,8 @@ fn create(
     queries: &mut Items<Query>,
     body: &Body,
 ) -> Result<(), NoMemory>
+    requires small { Small catalog.old (body_size body.now) }
+    requires apart { list_any has_same_columns (described catalog.old body.now).parts.heads ≡ false }
     requires few { length catalog.old < 2 ^ 32 - 1 }
     requires new_name { is_named (described catalog.old body.now).name catalog.old ≡ false }
     ensures { OnOk result (record { catalog = catalog.new; queries = queries.new } ≡ with_body (record { catalog = catalog.old; queries = queries.old }) body.now) }

@@ -2,8 +2,11 @@
 ghost use Rattle.std.specs.Prelude.{◌≡◌, [], map, IfOk, MatchResult};
 ghost use Rattle.std.specs.List.{list_any};
 ghost use Rattle.sq_ast.specs.declared.query.QueryTree.TheVariants as tree;
+ghost use Rattle.sq_ast.specs.Sources.{sum};
 ghost use Rattle.sq_typed.specs.Resolved.{resolved};
+ghost use Rattle.sq_typed.specs.Sizes.{HasFewGroups, joined_size, size_of, source_size};
 ghost use Rattle.sq_typed.proofs.QueryEquations.{resolved_joined, resolved_source};
+ghost use Rattle.sq_check.specs.QueriesFew.{Small};
 ghost use Rattle.sq_check.specs.QueriesFound.{Gives, GivesBlock, GivesFurther, GivesNext, GivesScope, GivesSource, OnRepeated, block_repeats, has_same_columns, joined_repeats, operand_repeats, repeats_in, source_repeats};
 ghost use Rattle.sq_scope.specs.Scoped.{scoped_by};
 ghost use Rattle.sq_check.specs.declared.resolve.Stop.TheVariants.{Memory, Repeated};
@@ -81,6 +84,7 @@ pub(crate) fn resolve(
     wanted: Wanted,
     findings: &mut Findings,
 ) -> Result<Shape, Stop>
+    requires { Small catalog.now (size_of query.now) }
     ensures { MatchResult result (λ shape. Gives wanted (resolved catalog.now query.now) findings.old findings.new shape) (OnRepeated (repeats_in wanted (resolved catalog.now query.now))) }
 {
     match query {
@@ -112,6 +116,7 @@ fn resolve_member(
     before: Option<Shape>,
     findings: &mut Findings,
 ) -> Result<Shape, Stop>
+    requires { Small catalog.now (size_of query.now) }
     ensures { MatchResult result (GivesNext wanted before (resolved catalog.now query.now) findings.old findings.new)
         (OnRepeated (operand_repeats wanted before (resolved catalog.now query.now))) }
 {
@@ -130,6 +135,7 @@ fn resolve_further(
     before: Shape,
     findings: &mut Findings,
 ) -> Result<Shape, Stop>
+    requires { Small catalog.now (size_of query.now) }
     ensures { MatchResult result (GivesFurther before (resolved catalog.now query.now) findings.old findings.new)
         (OnRepeated (list_any has_same_columns (resolved catalog.now query.now).parts.heads)) }
 {
@@ -149,6 +155,7 @@ fn resolve_block(
     wanted: Wanted,
     findings: &mut Findings,
 ) -> Result<Shape, Stop>
+    requires { Small catalog.now (size_of (tree.Block block.now)) }
     ensures { MatchResult result (λ shape. Gives wanted (resolved catalog.now (tree.Block block.now)) findings.old findings.new shape)
         (OnRepeated (repeats_in wanted (resolved catalog.now (tree.Block block.now)))) }
 {
@@ -165,6 +172,7 @@ fn resolve_sources<'a>(
     sources: &'a Items<JoinedTree>,
     findings: &mut Findings,
 ) -> Result<Scope<'a>, Stop>
+    requires { Small catalog.now (sum (map joined_size sources.now)) }
     ensures { MatchResult result (λ scope. GivesScope (map (resolved_joined catalog.now) sources.now) findings.old findings.new scope)
         (OnRepeated (list_any joined_repeats (map (resolved_joined catalog.now) sources.now))) }
 {
@@ -183,6 +191,7 @@ fn resolve_source<'a>(
     source: &'a SourceTree,
     findings: &mut Findings,
 ) -> Result<Source<'a>, Stop>
+    requires { Small catalog.now (source_size source.now) }
     ensures { MatchResult result (λ found. GivesSource (resolved_source catalog.now source.now) findings.old findings.new found) (OnRepeated (source_repeats (resolved_source catalog.now source.now))) }
 {
     match source {
@@ -204,6 +213,7 @@ fn block_shape(
     block: &BlockTree,
     wanted: Wanted,
 ) -> Result<Shape, Stop>
+    requires { HasFewGroups block.now }
     ensures { MatchResult result (λ shape. GivesBlock wanted (scoped_by scope.now block.now) shape) (OnRepeated (block_repeats wanted (scoped_by scope.now block.now))) }
 {
     match wanted {
@@ -213,6 +223,7 @@ fn block_shape(
 }
 
 fn distinct_shape(alloc: Global, scope: &Scope, block: &BlockTree) -> Result<Shape, Stop>
+    requires { HasFewGroups block.now }
     ensures { MatchResult result (λ shape. GivesBlock Distinct (scoped_by scope.now block.now) shape) (OnRepeated (block_repeats Distinct (scoped_by scope.now block.now))) }
 {
     let Some(columns) = distinct_columns(alloc, scope, block)? else {
@@ -228,6 +239,7 @@ fn front_shape(
     block: &BlockTree,
     limit: usize,
 ) -> Result<Shape, NoMemory>
+    requires { HasFewGroups block.now }
     ensures { IfOk result (λ shape. GivesBlock (Front limit) (scoped_by scope.now block.now) shape) }
 {
     let columns = first_columns(alloc, scope, block, limit as u128)?;

@@ -5,7 +5,9 @@ ghost use Rattle.sq_typed.specs.Faults.{described, described_view, first_kind, h
 ghost use Rattle.sq_typed.specs.Programs.{table_column};
 ghost use Rattle.sq_typed.specs.Resolved.{resolved};
 ghost use Rattle.sq_typed.specs.Scopes.{repeats as repeated};
+ghost use Rattle.sq_typed.specs.Sizes.{size_of};
 ghost use Rattle.sq_check.specs.QueriesFaults.{later_kinds};
+ghost use Rattle.sq_check.specs.QueriesFew.{Small, body_size};
 
 use crate::findings::Findings;
 use crate::resolve::{Stop, Wanted, resolve};
@@ -24,6 +26,7 @@ pub(crate) fn first_fault(
     before: usize,
     body: &Body,
 ) -> Result<Option<CheckKind>, NoMemory>
+    requires { Small catalog.now (body_size body.now) }
     ensures { IfOk result (λ fault. fault ≡ first_kind catalog.now before (described catalog.now body.now)) }
 {
     match body {
@@ -80,6 +83,7 @@ fn view_fault(
     name: &Str,
     query: &QueryTree,
 ) -> Result<Option<CheckKind>, NoMemory>
+    requires { Small catalog.now (size_of query.now) }
     ensures { IfOk result (λ fault. fault ≡ first_kind catalog.now before (described_view name.now (resolved catalog.now query.now))) }
 {
     if catalog.find(name.as_str()).is_some() {
@@ -98,6 +102,7 @@ fn query_fault(
     before: usize,
     query: &QueryTree,
 ) -> Result<Option<CheckKind>, NoMemory>
+    requires { Small catalog.now (size_of query.now) }
     ensures { IfOk result (λ fault. fault ≡ find (has catalog.now before (described_view [] (resolved catalog.now query.now))) later_kinds) }
 {
     let mut findings = Findings::nothing();

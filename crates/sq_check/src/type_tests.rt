@@ -6,6 +6,7 @@ ghost use Rattle.sq_expr.specs.declared.expr.Expr.TheVariants.{Column};
 ghost use Rattle.sq_typed.specs.Faults.{has_mixed_types, has_wide_expr, sums_text};
 ghost use Rattle.sq_typed.specs.Resolved.{on_cond};
 ghost use Rattle.sq_typed.specs.Selected.{written_out};
+ghost use Rattle.sq_typed.specs.Sizes.{HasFewGroups};
 ghost use Rattle.sq_scope.specs.Scoped.{ons_from, scoped_by};
 ghost use Rattle.sq_scope.specs.TypesItems.{chosen_of};
 ghost use Rattle.sq_check.specs.TypesTests.{call_fails, cond_fails, conds_fail, exprs_fail, fails, having_fails, item_fails, on_fails};
@@ -31,6 +32,7 @@ pub(crate) enum Test {
 /// Whether a comparison in the block has a number and a text, or arithmetic or SUM has a text, or a column of an expression is
 /// not there. `NoMemory` if memory runs out.
 pub fn has_mixed_types(alloc: Global, scope: &Scope, block: &BlockTree) -> Result<bool, NoMemory>
+    requires { HasFewGroups block.now }
     ensures { IfOk result (λ found. found ≡ has_mixed_types (scoped_by scope.now block.now)) }
 {
     let frame = Frame::of(alloc, scope, block)?;
@@ -42,6 +44,7 @@ pub fn has_mixed_types(alloc: Global, scope: &Scope, block: &BlockTree) -> Resul
 
 /// Whether the static bound of an expression of the block is above 2^127 - 1. `NoMemory` if memory runs out.
 pub fn has_wide_expr(alloc: Global, scope: &Scope, block: &BlockTree) -> Result<bool, NoMemory>
+    requires { HasFewGroups block.now }
     ensures { IfOk result (λ found. found ≡ has_wide_expr (scoped_by scope.now block.now)) }
 {
     let frame = Frame::of(alloc, scope, block)?;
@@ -130,7 +133,7 @@ fn listed_fails(alloc: Global, test: Test, frame: &Frame, item: &ListItem) -> Re
 {
     match item {
         ListItem::Starred { number, .. } => {
-            Ok(column_fails(test, frame.kinds(), frame.place_of(*number)))
+            Ok(column_fails(test, frame.kinds(), frame.place_of(*number) as usize))
         }
         ListItem::Written { expr, .. } => {
             let expr = frame.expr(alloc, expr)?;

@@ -1,11 +1,16 @@
 //! Queries with names replaced by numbers.
 ghost use Rattle.std.specs.Prelude.{◌≡◌, map, fold, length, unwrap_or, IfOk};
+ghost use Rattle.std.specs.List.{list_any};
+ghost use Rattle.sq_ast.specs.Sources.{sum};
 ghost use Rattle.sq_ast.specs.declared.query.QueryTree.TheVariants as tree;
 ghost use Rattle.sq_catalog.specs.Names.{place_of};
 ghost use Rattle.sq_typed.specs.declared.query.Query.TheVariants as query;
 ghost use Rattle.sq_typed.specs.Resolved.{resolved, widened as wider_columns};
 ghost use Rattle.sq_typed.specs.Selected.{block_columns};
+ghost use Rattle.sq_typed.specs.Sizes.{HasFewGroups, joined_size, size_of, source_size};
 ghost use Rattle.sq_typed.proofs.QueryEquations.{resolved_joined, resolved_source};
+ghost use Rattle.sq_check.specs.QueriesFew.{Typable};
+ghost use Rattle.sq_check.specs.QueriesFound.{has_same_columns, joined_repeats, source_repeats};
 ghost use Rattle.sq_check.specs.QueriesTyped.{IsTyped, HasSources, HasSource, items_from, joined_with, step_of};
 ghost use Rattle.sq_scope.specs.Scoped.{scoped_by};
 
@@ -35,6 +40,8 @@ pub(crate) fn typed_query(
     catalog: &Catalog,
     query: &QueryTree,
 ) -> Result<TypedQuery, NoMemory>
+    requires { Typable catalog.now (size_of query.now)
+        (list_any has_same_columns (resolved catalog.now query.now).parts.heads) }
     ensures { IfOk result (λ typed. IsTyped (resolved catalog.now query.now) typed) }
 {
     match query {
@@ -55,6 +62,8 @@ fn typed_chain(
     first: TypedQuery,
     rest: &Items<StepTree>,
 ) -> Result<TypedQuery, NoMemory>
+    requires { Typable catalog.now (sum (map (λ s. size_of s.query) rest.now))
+        (list_any (λ s. list_any has_same_columns (resolved catalog.now s.query).parts.heads) rest.now) }
     ensures columns { IfOk result (λ typed. typed.columns ≡ fold wider_columns first.columns (map (λ s. (resolved catalog.now s.query).columns) rest.now)) }
     ensures query { IfOk result (λ typed. typed.query ≡ query.Chain first.query (map (step_of catalog.now) rest.now)) }
 {
@@ -78,6 +87,8 @@ fn typed_members(
     catalog: &Catalog,
     members: &Items<QueryTree>,
 ) -> Result<TypedQuery, NoMemory>
+    requires { Typable catalog.now (sum (map size_of members.now))
+        (list_any (λ q. list_any has_same_columns (resolved catalog.now q).parts.heads) members.now) }
     ensures { IfOk result (λ typed. IsTyped (resolved catalog.now (tree.Intersect members.now)) typed) }
 {
     let mut columns = None;
@@ -108,6 +119,8 @@ fn joined_columns(
 
 #[cycle(typed)]
 fn typed_select(alloc: Global, catalog: &Catalog, block: &BlockTree) -> Result<TypedQuery, NoMemory>
+    requires { Typable catalog.now (size_of (tree.Block block.now))
+        (list_any has_same_columns (resolved catalog.now (tree.Block block.now)).parts.heads) }
     ensures { IfOk result (λ typed. IsTyped (resolved catalog.now (tree.Block block.now)) typed) }
 {
     let (scope, origins) = typed_sources(alloc, catalog, &block.sources)?;
@@ -124,6 +137,8 @@ fn typed_sources<'a>(
     catalog: &'a Catalog,
     sources: &'a Items<JoinedTree>,
 ) -> Result<(Scope<'a>, Items<Origin>), NoMemory>
+    requires { Typable catalog.now (sum (map joined_size sources.now))
+        (list_any joined_repeats (map (resolved_joined catalog.now) sources.now)) }
     ensures { IfOk result (λ typed. HasSources (map (resolved_joined catalog.now) sources.now) typed.0 typed.1) }
 {
     let mut found = Vec::new(alloc);
@@ -143,6 +158,8 @@ fn typed_source<'a>(
     catalog: &'a Catalog,
     source: &'a SourceTree,
 ) -> Result<(Source<'a>, Origin), NoMemory>
+    requires { Typable catalog.now (source_size source.now)
+        (source_repeats (resolved_source catalog.now source.now)) }
     ensures { IfOk result (λ typed. HasSource (resolved_source catalog.now source.now) typed.0 typed.1) }
 {
     match source {
@@ -189,6 +206,7 @@ fn typed_joins(
 
 /// All columns of a block.
 fn all_columns(alloc: Global, scope: &Scope, block: &BlockTree) -> Result<Items<Column>, NoMemory>
+    requires { HasFewGroups block.now }
     ensures { IfOk result (λ columns. columns ≡ block_columns (scoped_by scope.now block.now)) }
 {
     first_columns(alloc, scope, block, chosen_count(scope, block))

@@ -4,6 +4,7 @@ ghost use Rattle.std.specs.List.{flat_map};
 ghost use Rattle.sq_typed.specs.Numbered.{row_cond};
 ghost use Rattle.sq_typed.specs.Resolved.{typed_join};
 ghost use Rattle.sq_typed.specs.Selected.{written_out};
+ghost use Rattle.sq_typed.specs.Sizes.{HasFewGroups};
 ghost use Rattle.sq_scope.specs.Scoped.{scoped_by};
 ghost use Rattle.sq_check.specs.TypesBlockForms.{block_over, grouping_of};
 ghost use Rattle.sq_check.specs.TypesFrames.{frame_item};
@@ -50,13 +51,14 @@ pub fn typed_block(
     block: &BlockTree,
     sources: Items<FromItem>,
 ) -> Result<Query, NoMemory>
+    requires { HasFewGroups block.now }
     ensures { IfOk result (λ query. query ≡ block_over (scoped_by scope.now block.now) block.now sources) }
 {
     let frame = Frame::of(alloc, scope, block)?;
     let items = typed_items(alloc, &frame, scope, block.items.as_slice())?;
     let filter = typed_filter(alloc, &frame.row, &block.filter)?;
     let having = typed_having(alloc, &frame.row, &frame.groups, &block.having)?;
-    let grouping = grouping_of(alloc, frame.grouped, frame.into_groups(), having)?;
+    let grouping = grouping_of(frame.grouped, frame.into_groups(), having);
     let typed = Block {
         distinct: block.distinct,
         sources,
@@ -110,24 +112,18 @@ fn typed_having(
 }
 
 // The grouping of a block with these groups and this condition of HAVING, if it is grouped.
-fn grouping_of(
-    alloc: Global,
-    grouped: bool,
-    groups: Groups,
-    having: Option<Cond>,
-) -> Result<Option<Grouping>, NoMemory>
-    ensures { IfOk result (λ grouping. grouping ≡ grouping_of grouped groups.keys.numbers groups.calls having) }
+fn grouping_of(grouped: bool, groups: Groups, having: Option<Cond>) -> Option<Grouping>
+    ensures { result ≡ grouping_of grouped groups.keys.numbers groups.calls having }
 {
     if !grouped {
-        return Ok(None);
+        return None;
     }
     let Groups { keys, calls } = groups;
-    let columns = keys.column_numbers(alloc)?;
-    Ok(Some(Grouping {
-        columns,
+    Some(Grouping {
+        columns: keys.into_numbers(),
         calls,
         having,
-    }))
+    })
 }
 
 impl<'a> Frame<'a> {

@@ -119,7 +119,7 @@ begin_is ss layout i begin laid within is =
 
 -- the numbers of the columns of a source fit 64 bits
 pub columns_fit : (ss : Scope) (layout : Layout) (i begin : ℕ) (d : Named) (cs : List Column) → IsLaidOut ss layout → i < length ss → begin ≡ get_or layout.begins.items i begin →
-    cs ≡ d.columns → d ≡ get_or ss i d → begin + length cs < 2 ^ 64
+    cs ≡ d.columns → d ≡ get_or ss i d → begin + length cs < 2 ^ 32
 columns_fit ss layout i begin d cs laid within is listed here =
     let start : begin ≡ length (columns_in (take i ss)) = begin_is ss layout i begin laid within is in
     let whole : length layout.kinds.items ≡ length (columns_in ss) = ap length laid.kinds ∙ length-map (columns_in ss) (λ c. c.kind) in
@@ -136,7 +136,7 @@ columns_at (s ∷ ss) (suc i) d below = columns_at ss i d (omega (arith, below))
 
 -- so do those of the source at a place
 pub end_fits : (ss : Scope) (layout : Layout) (i begin : ℕ) → IsLaidOut ss layout → i < length ss → begin ≡ get_or layout.begins.items i begin →
-    begin + length (get_or (map (λ s. s.columns) ss) i []) < 2 ^ 64
+    begin + length (get_or (map (λ s. s.columns) ss) i []) < 2 ^ 32
 end_fits ss layout i begin laid within is =
     columns_fit ss layout i begin (get_or ss i nobody) (get_or (map (λ s. s.columns) ss) i []) laid within is (columns_at ss i nobody within) (get_or_default ss i nobody (get_or ss i nobody) within)
 

@@ -28,7 +28,7 @@ AreBegins scope begins = (i : ℕ) → i ≤ length scope → get_or begins i 0 
 -- the kinds of the columns of some sources, and where those of each begin
 pub record IsLaidOut (scope : Scope) (layout : Layout) : Type 0 where
   pub kinds : layout.kinds.items ≡ kinds_in scope
-  pub few : length layout.kinds.items < 2 ^ 64
+  pub few : length layout.kinds.items < 2 ^ 32
   pub all : length layout.begins.items ≡ length scope + 1
   pub begins : AreBegins scope layout.begins.items
 

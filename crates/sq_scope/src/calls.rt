@@ -1,5 +1,5 @@
 //! The aggregate calls of expressions and of select lists, each call once.
-ghost use Rattle.std.specs.Prelude.{◌≡◌, OnOk, position};
+ghost use Rattle.std.specs.Prelude.{◌≡◌, ◌≤◌, OnOk, length, position, unwrap_or};
 ghost use Rattle.std.specs.List.{flat_map};
 ghost use Rattle.sq_typed.specs.Leaves.{leaves};
 ghost use Rattle.sq_typed.specs.Numbered.{is_same_call, same_argument};
@@ -145,7 +145,8 @@ fn push_new(call: BlockCall, calls: &mut Items<BlockCall>) -> Result<(), NoMemor
 
 /// The place of the first call that is the same. Takes no memory.
 pub fn call_place(calls: &[BlockCall], call: &BlockCall) -> Option<usize>
-    ensures { result ≡ position (is_same_call call.now) calls.now }
+    ensures place { result ≡ position (is_same_call call.now) calls.now }
+    ensures few { unwrap_or result 0 ≤ length calls.now }
 {
     for (i, other) in calls.iter().enumerate() {
         if is_same_call(call, other) {

@@ -31,7 +31,7 @@ impl Found {
 #[derive(Clone, Copy, Debug)]
 pub struct Sight {
     pub count: usize,
-    pub first: usize,
+    pub first: u32,
 }
 
 impl Sight {
@@ -67,7 +67,7 @@ impl Sight {
     }
 
     // With one more column, if there is one.
-    fn with(self, number: Option<usize>) -> Sight
+    fn with(self, number: Option<u32>) -> Sight
         requires { self.count < 2 ^ 63 }
         ensures { (ns : List ℕ) → Sees self ns → Sees result (ns ++ option_to_list number) }
     {

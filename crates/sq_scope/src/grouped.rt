@@ -1,12 +1,12 @@
 //! Expressions and conditions over a group row, and the kinds of that row.
-ghost use Rattle.std.specs.Prelude.{◌≡◌, ◌++◌, IfOk, get_or, map};
+ghost use Rattle.std.specs.Prelude.{◌≡◌, ◌<◌, ◌+◌, ◌^◌, ◌++◌, IfOk, get_or, length, map};
 ghost use Rattle.sq_expr.specs.declared.expr.Kind.TheVariants.{Bigint};
 ghost use Rattle.sq_typed.specs.Numbered.{call_kind, kind_of};
 ghost use Rattle.sq_scope.specs.TypesGroups.{call_kinds, key_kinds, over_group, over_group_cond, over_group_term, place_of_call, place_of_key};
 
 use crate::calls::call_place;
 use crate::keys::Keys;
-use crate::numbered::{cmp_of, column_number, typed_call};
+use crate::numbered::{cmp_of, typed_call};
 use crate::sources_row::Row;
 use sq_ast::{CondTree, ExprTree, FuncTree, TermTree};
 use sq_expr::{Cond, Expr, Func, Kind, Term};
@@ -15,11 +15,12 @@ use sq_value::NoMemory;
 use sqlite_items::{Boxed, Items};
 use std::alloc::Global;
 
-/// The columns of GROUP BY and the calls of a block, each call once.
+/// The columns of GROUP BY and the calls of a block, each call once: fewer than 2^32 in all.
 #[derive(Drop)]
 pub struct Groups {
     pub keys: Keys,
     pub calls: Items<BlockCall>,
+    ghost few: { length keys.numbers + length calls < 2 ^ 32 },
 }
 
 /// The expression over the group row, or `NoMemory` if memory runs out.
@@ -47,9 +48,7 @@ pub fn group_expr(
         )?)),
         ExprTree::Number(number) => Ok(Expr::Number(*number)),
         ExprTree::Text(text) => Ok(Expr::Text(text.clone_str(alloc)?)),
-        ExprTree::Column(r) => Ok(Expr::Column(column_number(groups.place_of_key(row.number_of(
-            r,
-        )))?)),
+        ExprTree::Column(r) => Ok(Expr::Column(groups.place_of_key(row.number_of(r)))),
         ExprTree::Call { func, arg } => Ok(Expr::Column(place_of_call(
             alloc, row, groups, *func, arg,
         )?)),
@@ -157,7 +156,7 @@ fn group_conds(
 
 impl Groups {
     /// The place in the group row of the column with this number, 0 if it is none of GROUP BY. Takes no memory.
-    pub fn place_of_key(&self, number: usize) -> usize
+    pub fn place_of_key(&self, number: u32) -> u32
         ensures { result ≡ place_of_key self.now.keys.numbers number }
     {
         self.keys.place_of(number).unwrap_or(0)
@@ -176,7 +175,7 @@ fn place_of_call(
 {
     let call = typed_call(alloc, row, func, arg)?;
     let place = call_place(groups.calls.as_slice(), &call).unwrap_or(0);
-    column_number(groups.keys.numbers.len().saturating_add(place))
+    Ok((groups.keys.numbers.len() + place) as u32)
 }
 
 /// The kinds of the group row, over columns of some kinds, or `NoMemory` if memory runs out.
@@ -189,12 +188,12 @@ pub fn group_kinds(alloc: Global, kinds: &[Kind], groups: &Groups) -> Result<Ite
     Ok(typed)
 }
 
-fn key_kinds(alloc: Global, kinds: &[Kind], numbers: &[usize]) -> Result<Items<Kind>, NoMemory>
+fn key_kinds(alloc: Global, kinds: &[Kind], numbers: &[u32]) -> Result<Items<Kind>, NoMemory>
     ensures { IfOk result (λ ks. ks ≡ key_kinds kinds.now numbers.now) }
 {
     let mut typed = Items::new(alloc);
     for number in numbers {
-        typed.push(kind_at(kinds, *number))?;
+        typed.push(kind_at(kinds, *number as usize))?;
     }
     Ok(typed)
 }

@@ -67,7 +67,7 @@ pub struct Place {
     // The number of its source.
     pub source: usize,
     // Its number among the columns of all sources.
-    pub number: usize,
+    pub number: u32,
 }
 
 // Puts a place behind those of the name.
@@ -128,12 +128,12 @@ fn add_columns(
     begin: usize,
     columns: &[Column],
 ) -> Result<(), NoMemory>
-    requires few { begin + length columns.now < 2 ^ 64 }
+    requires few { begin + length columns.now < 2 ^ 32 }
     requires behind { (q : Text) → AllByRecursion (λ p. p.source < source) (spots_of places.old q) }
     ensures { OnOk result ((q : Text) → spots_of places.new q ≡ spots_of places.old q ++ spot_at source begin (position (λ c. bytes_eq q c.name) columns.now)) }
 {
     for (i, column) in columns.iter().enumerate() {
-        let number = begin + i;
+        let number = (begin + i) as u32;
         add_first_place(
             alloc,
             places,
@@ -173,7 +173,7 @@ pub fn places_before(places: &[Place], sources: usize) -> usize
 }
 
 // The number of the column in a source that is among the first.
-pub fn number_before(places: &[Place], source: usize, sources: usize) -> Option<usize>
+pub fn number_before(places: &[Place], source: usize, sources: usize) -> Option<u32>
     requires { IsRising places.now }
     ensures { option_to_list result ≡ found_in sources places.now source }
 {
@@ -185,7 +185,7 @@ pub fn number_before(places: &[Place], source: usize, sources: usize) -> Option<
 }
 
 // The number of the column in a source.
-fn number_in(places: &[Place], source: usize) -> Option<usize>
+fn number_in(places: &[Place], source: usize) -> Option<u32>
     requires { IsRising places.now }
     ensures { option_to_list result ≡ numbers_at source places.now }
 {
@@ -193,7 +193,7 @@ fn number_in(places: &[Place], source: usize) -> Option<usize>
 }
 
 // The number of the place, if it is in the source.
-fn number_if(place: Option<&Place>, source: usize) -> Option<usize>
+fn number_if(place: Option<&Place>, source: usize) -> Option<u32>
     ensures { option_to_list result ≡ number_if_at source (option_copied place.entry) }
 {
     match place {

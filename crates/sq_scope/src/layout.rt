@@ -1,6 +1,7 @@
 //! The kinds of the columns of some sources, and where those of each source begin.
-ghost use Rattle.std.specs.Prelude.{IfOk};
+ghost use Rattle.std.specs.Prelude.{◌<◌, ◌^◌, IfOk, length};
 ghost use Rattle.sq_scope.specs.NamesFound.{IsLaidOut};
+ghost use Rattle.sq_typed.specs.Scopes.{columns_in};
 
 use crate::Source;
 use sq_expr::Kind;
@@ -18,6 +19,7 @@ pub struct Layout {
 
 // Where the columns of the sources stand.
 pub fn laid_out(alloc: Global, sources: &[Source]) -> Result<Layout, NoMemory>
+    requires few { length (columns_in sources.now) < 2 ^ 32 }
     ensures { IfOk result (λ layout. IsLaidOut sources.now layout) }
 {
     let mut kinds = Vec::new(alloc);

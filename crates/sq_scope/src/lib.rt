@@ -22,7 +22,7 @@ pub use grouped::{Groups, group_cond, group_expr, group_kinds, kind_at, kind_of}
 pub use keys::Keys;
 pub use list_items::{ListItem, chosen};
 pub use names::names_fault;
-pub use numbered::{column_number, row_cond, row_expr};
+pub use numbered::{row_cond, row_expr};
 pub use references::{has_ambiguous_column, has_unknown_column};
 pub use repeating::repeats;
 pub use scope::{Columns, Scope, Source};

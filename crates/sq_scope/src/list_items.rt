@@ -13,7 +13,7 @@ use std::alloc::Global;
 #[derive(Drop)]
 pub enum ListItem<'a> {
     Starred {
-        number: usize,
+        number: u32,
         column: &'a Column,
     },
     Written {
@@ -91,12 +91,12 @@ fn numbered<'a>(
     begin: usize,
     columns: &'a [Column],
 ) -> Result<Vec<ListItem<'a>>, NoMemory>
-    requires few { begin + length columns.now < 2 ^ 64 }
+    requires few { begin + length columns.now < 2 ^ 32 }
     ensures { IfOk result (λ items. map chosen_of items.items ≡ starred_from begin columns.now) }
 {
     let mut items = Vec::new(alloc);
     for (i, column) in columns.iter().enumerate() {
-        let number = begin + i;
+        let number = (begin + i) as u32;
         items.push(ListItem::Starred { number, column })?;
     }
     Ok(items)

@@ -1,5 +1,5 @@
 //! Expressions and conditions over the columns in scope, with numbers in the place of names.
-ghost use Rattle.std.specs.Prelude.{◌≡◌, ◌≤◌, ◌^◌, IfOk, OnErr, map, option_map};
+ghost use Rattle.std.specs.Prelude.{◌≡◌, IfOk, map, option_map};
 ghost use Rattle.sq_typed.specs.Numbered.{cmp_of, func_of, row_cond, row_expr, typed_call};
 ghost use Rattle.sq_scope.specs.TypesNumbered.{row_term};
 
@@ -30,7 +30,7 @@ pub fn row_expr(alloc: Global, row: &Row, tree: &ExprTree) -> Result<Expr, NoMem
         )?)),
         ExprTree::Number(number) => Ok(Expr::Number(*number)),
         ExprTree::Text(text) => Ok(Expr::Text(text.clone_str(alloc)?)),
-        ExprTree::Column(r) => Ok(Expr::Column(column_number(row.number_of(r))?)),
+        ExprTree::Column(r) => Ok(Expr::Column(row.number_of(r))),
         ExprTree::Call { .. } => Ok(Expr::Number(0)),
     }
 }
@@ -102,18 +102,6 @@ fn row_conds(alloc: Global, row: &Row, conds: &[CondTree]) -> Result<Items<Cond>
         typed.push(row_cond(alloc, row, cond)?)?;
     }
     Ok(typed)
-}
-
-/// The number as that of a column in an expression. Such numbers have 32 bits: the answer is `NoMemory` for 2^32 and more, and
-/// for no other.
-pub fn column_number(number: usize) -> Result<u32, NoMemory>
-    ensures number { IfOk result (λ column. column ≡ number) }
-    ensures large { OnErr result (2 ^ 32 ≤ number) }
-{
-    match u32::try_from(number) {
-        Ok(number) => Ok(number),
-        Err(_) => Err(NoMemory),
-    }
 }
 
 /// What a comparison is in a typed condition.

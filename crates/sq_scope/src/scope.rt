@@ -98,8 +98,9 @@ impl<'a> Model for Scope<'a> {
 }
 
 impl<'a> Scope<'a> {
-    /// A scope of these sources. The answer is `NoMemory` if memory runs out.
+    /// A scope of these sources, which have fewer than 2^32 columns in all. The answer is `NoMemory` if memory runs out.
     pub fn of(alloc: Global, sources: Vec<Source<'a>>) -> Result<Scope<'a>, NoMemory>
+        requires few { length (columns_in sources.items) < 2 ^ 32 }
         ensures { IfOk result (λ scope. scope ≡ sources.entry.items) }
     {
         let layout = laid_out(alloc, sources.as_slice())?;
@@ -137,7 +138,7 @@ impl<'a> Scope<'a> {
     pub fn begin(&self, place: usize) -> usize
         requires { place < length self.now }
         ensures begin { result ≡ length (columns_in (take place self.now)) }
-        ensures few { result + length (get_or (map (λ s. s.columns) self.now) place []) < 2 ^ 64 }
+        ensures few { result + length (get_or (map (λ s. s.columns) self.now) place []) < 2 ^ 32 }
     {
         self.layout.begins[place]
     }
@@ -165,7 +166,7 @@ impl<'a> Scope<'a> {
 
     /// The number of the column that the reference means among the columns of so many sources: the first that it finds, and
     /// 0 if it finds none. Takes no memory.
-    pub fn number_of(&self, sources: usize, r: &ColRef) -> usize
+    pub fn number_of(&self, sources: usize, r: &ColRef) -> u32
         ensures { result ≡ number_of (take sources self.now) r.now }
     {
         self.sight(sources, r).first

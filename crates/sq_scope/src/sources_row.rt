@@ -42,7 +42,7 @@ impl<'a> Row<'a> {
     }
 
     // The number of the column that the reference means.
-    pub fn number_of(&self, r: &ColRef) -> usize
+    pub fn number_of(&self, r: &ColRef) -> u32
         ensures { result ≡ number_of self.now r.now }
     {
         self.scope.number_of(self.sources, r)

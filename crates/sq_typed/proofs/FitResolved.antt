@@ -6,16 +6,13 @@ use Rattle.std.proofs.lemmas.Bool.{lt-ltb}
 use Rattle.std.proofs.lemmas.Bool.Decides.{Decides-eqb}
 use Rattle.std.proofs.lemmas.List.{map-append, append-nil}
 use Rattle.sq_ast.specs.declared.cond.CondTree.{CondTree}
-use Rattle.sq_ast.specs.declared.query.BlockTree.{BlockTree, out-BlockTree, roll-out-BlockTree}
+use Rattle.sq_ast.specs.declared.query.BlockTree.{out-BlockTree}
 use Rattle.sq_ast.specs.declared.query.JoinTree.{JoinTree}
 use Rattle.sq_ast.specs.declared.query.JoinTree.TheVariants as written
-use Rattle.sq_ast.specs.declared.query.JoinedTree.{JoinedTree, roll-out-JoinedTree}
 use Rattle.sq_ast.specs.declared.query.QueryTree.{QueryTree}
 use Rattle.sq_ast.specs.declared.query.QueryTree.TheOpen.{QueryTree-F, SourceTree-F, BlockTree-F}
-use Rattle.sq_ast.specs.declared.query.QueryTree.TheVariants as tree
 use Rattle.sq_ast.specs.declared.query.SetOp.{SetOp}
 use Rattle.sq_ast.specs.declared.query.SourceTree.{SourceTree}
-use Rattle.sq_ast.specs.declared.query.StepTree.{StepTree, roll-out-StepTree}
 use Rattle.sq_catalog.specs.Names.{place_of, is_named}
 use Rattle.sq_catalog.specs.declared.relation.Column.{Column}
 use Rattle.sq_catalog.specs.declared.relation.Relation.{Relation}

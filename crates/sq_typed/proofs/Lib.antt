@@ -21,6 +21,8 @@ pub mod FitTests
 pub mod FitBlocks
 pub mod QueryTrees
 pub mod SourceLemmas
+pub mod SizeLemmas
+pub mod NarrowLemmas
 pub mod FitResolved
 pub mod FitStatements
 pub mod WrittenLemmas

@@ -5,7 +5,7 @@ use Rattle.std.specs.List.{AllByRecursion}
 use Rattle.sq_ast.specs.declared.query.BlockTree.{BlockTree, out-BlockTree, out-roll-BlockTree}
 use Rattle.sq_ast.specs.declared.query.JoinedTree.{JoinedTree}
 use Rattle.sq_ast.specs.declared.query.QueryTree.{QueryTree, roll-QueryTree}
-use Rattle.sq_ast.specs.declared.query.QueryTree.TheFolds.{map-QueryTree, map-SourceTree, ind-QueryTree}
+use Rattle.sq_ast.specs.declared.query.QueryTree.TheFolds.{map-QueryTree, map-SourceTree, ind-QueryTree, ind-SourceTree}
 use Rattle.sq_ast.specs.declared.query.QueryTree.TheOpen.{QueryTree-F, SourceTree-F}
 use Rattle.sq_ast.specs.declared.query.QueryTree.TheVariants as query
 use Rattle.sq_ast.specs.declared.query.SourceTree.{SourceTree, roll-SourceTree}
@@ -58,6 +58,14 @@ module _ (P : QueryTree → Type 0) (S : SourceTree → Type 0) (c : QueryTreeCa
 
   pub each_query_tree : (q : QueryTree) → P q
   each_query_tree = ind-QueryTree P S OfBlock OfJoined OfStep
+      (λ x y is. subst (λ z. P (roll-QueryTree z)) is (query_level y))
+      (λ x y is. subst (λ z. S (roll-SourceTree z)) is (source_level y))
+      (λ x y is. subst (λ z. AllByRecursion (λ j. S j.source) z.sources) (sym (out-roll-BlockTree x)) (subst (λ z. AllByRecursion (λ j. S j.source) z.sources) is (all_of OfJoined y.sources)))
+      (λ x y is. subst (λ z. S z.source) is y.source.1)
+      (λ x y is. subst (λ z. P z.query) is y.query.1)
+
+  pub each_source_tree : (s : SourceTree) → S s
+  each_source_tree = ind-SourceTree P S OfBlock OfJoined OfStep
       (λ x y is. subst (λ z. P (roll-QueryTree z)) is (query_level y))
       (λ x y is. subst (λ z. S (roll-SourceTree z)) is (source_level y))
       (λ x y is. subst (λ z. AllByRecursion (λ j. S j.source) z.sources) (sym (out-roll-BlockTree x)) (subst (λ z. AllByRecursion (λ j. S j.source) z.sources) is (all_of OfJoined y.sources)))

@@ -1,6 +1,6 @@
 -- Programs that were checked.
 --     Spelling s        tokens that spell a statement.       IsChecked p        statements without faults mean this program
-use Rattle.std.specs.Prelude.{◌≡◌, List, [], None, refl}
+use Rattle.std.specs.Prelude.{◌≡◌, ◌<◌, ◌^◌, List, [], None, length, refl}
 use Rattle.std.specs.Coded.{Coded, code_by, coded×}
 use Rattle.std.specs.List.{AllByRecursion}
 use Rattle.sq_ast.specs.Spelling.{SpellsBody, IsShallow}
@@ -12,11 +12,12 @@ use Rattle.sq_typed.specs.Programs.{Typed}
 use Rattle.sq_typed.specs.Views.{Meant}
 use Rattle.sq_typed.specs.declared.query.Query.{Query}
 
--- these tokens spell a statement, and no front of them has more than 64 parentheses open
+-- these tokens spell a statement, there are fewer than 2^27, and no front of them has more than 64 parentheses open
 pub record Spelling (s : Statement) : Type 0 where
   pub tokens : Tokens
   pub spelled : SpellsBody tokens s.body []
   pub shallow : IsShallow tokens
+  pub few : length tokens < 2 ^ 27
 
 -- each of these statements is spelled by some tokens, none of them has a fault, and they mean this program
 pub record IsChecked (program : Meant) : Type 0 where

@@ -14,6 +14,7 @@ pub mod Selected
 pub mod Resolved
 pub mod Programs
 pub mod Faults
+pub mod Sizes
 pub mod FaultExamples
 pub mod FaultsOf
 pub mod ProgramExamples

@@ -1,6 +1,8 @@
 use Rattle.std.proofs.Common.{◌∙◌, arith}
 use Rattle.sq_typed.proofs.SourceLemmas.{as_many_sources}
 use Rattle.sq_check.proofs.QueriesProgram.{nothing_yet, counted, one_more, all_done, is_checked, passed, refused_here}
+use Rattle.sq_typed.specs.Checked.{Spelling}
+use Rattle.sq_check.proofs.QueriesSmall.{all_at, statement_small}
 use Rattle.sq_check.specs.declared.program.CheckFault.TheVariants.{Fault}
 use Rattle.sq_check.proofs.program.check.Goals as goal
 
@@ -8,7 +10,13 @@ pub loop-before-init : goal.loop-before-init
 loop-before-init c = nothing_yet c.args.statements.now (record { catalog = c.new-catalog.result; queries = c.new-queries.result }) (λ i. record { catalog = c.new-catalog.ensures i; queries = c.new-queries.ensures i })
 
 pub add_statement-requires : goal.add_statement-requires
-add_statement-requires c = counted c.args.statements.now c.loop-before.before (record { catalog = c.loop-before.catalog; queries = c.loop-before.queries }) c.loop-before.invariant
+add_statement-requires c = record {
+  small = record {
+    narrow = c.loop-before.invariant.narrow;
+    few = statement_small c.index-statements-before.result (all_at Spelling c.args.statements.now c.loop-before.before c.index-statements-before.result c.requires.spelled (omega arith) c.index-statements-before.is);
+  };
+  before = counted c.args.statements.now c.loop-before.before (record { catalog = c.loop-before.catalog; queries = c.loop-before.queries }) c.loop-before.invariant;
+}
 
 pub returns-in_err-add_statement : goal.returns-in_err-add_statement
 returns-in_err-add_statement c =

@@ -1,6 +1,8 @@
 use Rattle.std.proofs.Common.{refl, ◌∙◌, arith, rules}
 use Rattle.sq_check.proofs.QueriesGiven.{stopped, chain_repeats_first, chain_repeats_later, chain_starts, chain_goes, chain_ends, member_repeats, member_goes, member_ends, member_answers, relation_gives, query_gives, query_repeats, no_sources, source_goes, source_repeats_at, sources_end, sources_repeat, block_answers, gives_after}
+use Rattle.sq_ast.specs.declared.query.QueryTree.{the_lemmas}
 use Rattle.sq_typed.specs.Resolved.{widened}
+use Rattle.sq_check.proofs.QueriesSmall.{first_small, rest_small, step_small, members_small, member_small, sources_small, groups_small, query_small, source_small, scope_small}
 use Rattle.sq_check.proofs.resolve.+resolve.Goals as goal
 
 pub resolve-returns-in_err-shape-in-Chain : goal.resolve-returns-in_err-shape-in-Chain
@@ -86,3 +88,40 @@ resolve_sources-loop-joined-preserved t c =
 pub resolve_sources-returns : goal.resolve_sources-returns
 resolve_sources-returns t c =
     sources_end c.args.catalog.now c.args.sources.now c.as_slice-joined-items.result.now c.loop-joined.joined-index _ _ c.loop-joined.found.items c.in_ok-of.field-0 c.as_slice-joined-items.ensures (omega arith) c.loop-joined.invariant (c.in_ok-of.ensures)
+
+-- ---- the parts are small
+
+pub resolve-resolve-requires : goal.resolve-resolve-requires
+resolve-resolve-requires t c = (search (rules, the_lemmas), first_small c.args.catalog.now c.args.query.now c.in-Chain.first c.get-in-Chain.result.now c.in-Chain.rest c.in-Chain.is c.get-in-Chain.ensures c.requires)
+
+pub resolve-resolve_further-requires : goal.resolve-resolve_further-requires
+resolve-resolve_further-requires t c = (
+  search (rules, the_lemmas),
+  step_small c.args.catalog.now c.in-Chain.rest c.as_slice-step-items.result.now c.loop-step.step-index c.step-item.result c.as_slice-step-items.ensures (omega arith) c.step-item.is
+      (rest_small c.args.catalog.now c.args.query.now c.in-Chain.first c.in-Chain.rest c.in-Chain.is c.requires),
+)
+
+pub resolve-resolve_member-requires : goal.resolve-resolve_member-requires
+resolve-resolve_member-requires t c = (
+  search (rules, the_lemmas),
+  member_small c.args.catalog.now c.in-Intersect.members c.as_slice-member-items.result.now c.loop-member.member-index c.member-item.result c.as_slice-member-items.ensures (omega arith) c.member-item.is
+      (members_small c.args.catalog.now c.args.query.now c.in-Intersect.members c.in-Intersect.is c.requires),
+)
+
+pub resolve_block-resolve_sources-requires : goal.resolve_block-resolve_sources-requires
+resolve_block-resolve_sources-requires t c = (search (rules, the_lemmas), sources_small c.args.catalog.now c.args.block.now c.requires)
+
+pub resolve_block-note_block-requires : goal.resolve_block-note_block-requires
+resolve_block-note_block-requires t c = groups_small c.args.catalog.now c.args.block.now c.requires
+
+pub resolve_block-block_shape-requires : goal.resolve_block-block_shape-requires
+resolve_block-block_shape-requires t c = groups_small c.args.catalog.now c.args.block.now c.requires
+
+pub resolve_source-resolve-requires : goal.resolve_source-resolve-requires
+resolve_source-resolve-requires t c = (search (rules, the_lemmas), query_small c.args.catalog.now c.args.source.now c.in-Query.query c.get.result.now c.in-Query.alias c.in-Query.is c.get.ensures c.requires)
+
+pub resolve_sources-resolve_source-requires : goal.resolve_sources-resolve_source-requires
+resolve_sources-resolve_source-requires t c = (search (rules, the_lemmas), source_small c.args.catalog.now c.args.sources.now c.as_slice-joined-items.result.now c.loop-joined.joined-index c.joined-item.result c.as_slice-joined-items.ensures (omega arith) c.joined-item.is c.requires)
+
+pub resolve_sources-of-requires : goal.resolve_sources-of-requires
+resolve_sources-of-requires t c = record { few = scope_small c.args.catalog.now c.args.sources.now c.as_slice-joined-items.result.now c.loop-joined.joined-index _ _ c.loop-joined.found.items c.as_slice-joined-items.ensures (omega arith) c.loop-joined.invariant c.requires }

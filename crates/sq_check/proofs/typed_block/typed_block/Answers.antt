@@ -10,10 +10,10 @@ use Rattle.sq_check.proofs.typed_block.typed_block.Goals as goal
 pub returns : goal.returns
 returns c =
     ap query.Block c.in_ok-new.ensures
-    ∙ block_is c.args.scope.now c.args.block.now c.in_ok-frame.frame c.args.sources c.in_ok-filter.filter c.in_ok-grouping.grouping c.in_ok-items.items
+    ∙ block_is c.args.scope.now c.args.block.now c.in_ok-frame.frame c.args.sources c.in_ok-filter.filter c.grouping_of-grouping.result c.in_ok-items.items
     c.in_ok-frame.ensures
     c.in_ok-filter.ensures
-    (c.in_ok-grouping.ensures
+    (c.grouping_of-grouping.ensures
     ∙ (ap (λ ns. grouping_of c.in_ok-frame.frame.grouped ns c.into_groups.result.calls c.in_ok-having.having) c.into_groups.ensures.numbers
     ∙ (ap (λ cs. grouping_of c.in_ok-frame.frame.grouped c.in_ok-frame.frame.groups.keys.numbers cs c.in_ok-having.having) c.into_groups.ensures.calls
     ∙ ap (grouping_of c.in_ok-frame.frame.grouped c.in_ok-frame.frame.groups.keys.numbers c.in_ok-frame.frame.groups.calls) c.in_ok-having.ensures)))

@@ -1,5 +1,5 @@
 use Rattle.std.proofs.lemmas.Result.{err_from_is_err_and, IfErr-weaker, IfOk-weaker}
-use Rattle.std.proofs.Common.{subst, sym}
+use Rattle.std.proofs.Common.{arith, subst, sym}
 use Rattle.sq_ast.specs.Spelling.{Spells}
 use Rattle.sq_check.proofs.QueriesSpelled.{each_spelled}
 use Rattle.sq_top.proofs.Judging.{parse_stops, statements_stop}
@@ -17,7 +17,7 @@ returns-clause-refused c =
     c.judge_statements.ensures.refused
 
 pub judge_statements-requires : goal.judge_statements-requires
-judge_statements-requires c = each_spelled c.args.tokens.now c.deref.result.now (subst (Spells c.args.tokens.now) (sym c.deref.ensures.value) c.in_ok-statements.ensures.found)
+judge_statements-requires c = each_spelled c.args.tokens.now c.deref.result.now (omega (arith, c.requires)) (subst (Spells c.args.tokens.now) (sym c.deref.ensures.value) c.in_ok-statements.ensures.found)
 
 pub returns-clause-accepted : goal.returns-clause-accepted
 returns-clause-accepted c =
