@@ -1,40 +1,31 @@
 -- The rows that a node makes are of the kinds that it gives.
-use Rattle.std.proofs.Common.{◌≡◌, ℕ, zero, suc, ◌+◌, ◌<◌, ◌≤◌, ◌^◌, Bool, true, false, not, ◌&&◌, ◌||◌, cond, List, [], ◌∷◌, ◌++◌, map, length, replicate, get_or, ℤ, pos, ◌≤ℤ◌, unsigned_abs, Some, None, refl, sym, ap, ap₂, subst, ◌∙◌, arith}
-use Rattle.std.specs.Prelude.{Option, FitsSigned, fold, is_some, slice_get, ⊤}
-use Rattle.std.specs.Int.{w64}
-use Rattle.std.specs.List.{All, AllByRecursion, find, flat_map, list_any}
-use Rattle.std.specs.Ordering.{int_eq, is_eq, is_lt}
+use Rattle.std.proofs.Common.{◌≡◌, ℕ, true, false, cond, List, [], ◌∷◌, ◌++◌, replicate, get_or, Some, None, refl, sym, ap, subst, ◌∙◌}
+use Rattle.std.specs.Prelude.{Option, is_some}
+use Rattle.std.specs.List.{All, AllByRecursion}
+use Rattle.std.specs.Ordering.{is_eq}
 use Rattle.std.proofs.lemmas.Option.{cond_some}
-use Rattle.std.proofs.lemmas.Int.{fits_signed_from_abs}
-use Rattle.std.proofs.lemmas.List.Elements.{recursion_from_All}
-use borrow.Author.Differences.{ints}
-use Rattle.sq_value.specs.Order.{row_cmp, value_cmp}
-use Rattle.sq_value.specs.OrderLaws.{row_cmp-total, row_cmp-antisymmetric}
+use Rattle.sq_value.specs.Order.{row_cmp}
 use Rattle.sq_value.specs.declared.value.Value.{Value}
-use Rattle.sq_value.specs.declared.value.Value.TheVariants.{Null, Int, Text}
+use Rattle.sq_value.specs.declared.value.Value.TheVariants.{Null}
 use Rattle.sq_expr.specs.Items.{IsStorable}
 use Rattle.sq_expr.specs.Kinds.{AreOfKinds, IsOfKind}
-use Rattle.sq_expr.specs.Meaning.{column_of, is_null, num, columns_of}
-use Rattle.sq_expr.specs.Bigint.{first_not_bigint, is_bigint}
+use Rattle.sq_expr.specs.Meaning.{num, columns_of}
 use Rattle.sq_expr.specs.declared.cond.Cond.{Cond}
 use Rattle.sq_expr.specs.declared.expr.Expr.{Expr}
-use Rattle.sq_expr.specs.declared.expr.Func.{Func}
-use Rattle.sq_expr.specs.declared.expr.Func.TheVariants.{CountAll, Count, Sum, Min, Max}
 use Rattle.sq_expr.specs.declared.expr.Kind.{Kind}
-use Rattle.sq_expr.specs.declared.expr.Kind.TheVariants as kind
 use Rattle.sq_expr.proofs.Equations.{num-Column}
 use Rattle.sq_expr.proofs.Rows.{kind_of_column, kinds_joined, kinds_of_nulls, number_is_bigint, text_is_text, value_of_sort}
-use Rattle.sq_algebra.specs.Operators.{distinct, image, pairs_where, where_same}
-use Rattle.sq_algebra.specs.ZSet.{entries, minus, plus, total}
+use Rattle.sq_algebra.specs.Operators.{image, pairs_where, where_same}
+use Rattle.sq_algebra.specs.ZSet.{entries}
 use Rattle.sq_ops.specs.Extensions.{first_value_outside}
 use Rattle.sq_ops.specs.Joins.{chosen, key_in}
 use Rattle.sq_ops.specs.Rows.{holds, items_of, kept, numbers_of, padded}
 use Rattle.sq_ops.specs.declared.bilinear.Pairing.{Pairing}
 use Rattle.sq_ops.proofs.Ranges.{items_stored, none_of_each}
-use Rattle.sq_circuit.specs.Invariant.{HasKinds, IsListed}
-use Rattle.sq_circuit.specs.Nodes.{Rows, none, paired}
+use Rattle.sq_circuit.specs.Invariant.{HasKinds}
+use Rattle.sq_circuit.specs.Nodes.{Rows, paired}
 use Rattle.sq_circuit.specs.Plain.{ColumnKinds, ItemKind, ItemKinds, OfColumn, OfNumber, OfText, PaddedKinds}
-use Rattle.sq_circuit.proofs.Lower.{EachRow, rows_of_difference, rows_of_distinct, rows_of_image, rows_of_product, rows_of_sum}
+use Rattle.sq_circuit.proofs.Lower.{rows_of_image, rows_of_product}
 
 abbrev OfKinds : List Kind → List Value → Type 0
 OfKinds kinds row = AreOfKinds row kinds

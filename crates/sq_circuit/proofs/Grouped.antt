@@ -1,8 +1,8 @@
 -- The rows of an aggregate are of the kinds that it gives.
-use Rattle.std.proofs.Common.{◌≡◌, ℕ, zero, suc, ◌+◌, ◌<◌, ◌≤◌, ◌^◌, Bool, true, false, not, ◌&&◌, ◌||◌, cond, List, [], ◌∷◌, ◌++◌, map, length, get_or, ℤ, pos, ◌≤ℤ◌, unsigned_abs, Some, None, refl, sym, ap, ap₂, subst, ◌∙◌, arith}
-use Rattle.std.specs.Prelude.{Option, FitsSigned, fold, if◌then◌else◌, is_some, slice_get, ⊤}
+use Rattle.std.proofs.Common.{◌≡◌, ℕ, ◌^◌, Bool, true, false, not, ◌||◌, cond, List, [], ◌∷◌, ◌++◌, map, ℤ, pos, ◌≤ℤ◌, Some, None, refl, sym, subst, arith}
+use Rattle.std.specs.Prelude.{FitsSigned, fold, is_some, slice_get}
 use Rattle.std.specs.Int.{w64}
-use Rattle.std.specs.List.{All, AllByRecursion, find, flat_map}
+use Rattle.std.specs.List.{AllByRecursion, find, flat_map}
 use Rattle.std.specs.Ordering.{int_eq, is_eq, is_lt, match_ordering}
 use Rattle.std.specs.declared.cmp.Ordering.TheVariants.{Less, Equal, Greater}
 use Rattle.std.proofs.lemmas.Int.{fits_signed_from_abs}
@@ -11,7 +11,7 @@ use borrow.Author.Differences.{ints}
 use Rattle.sq_value.specs.Order.{row_cmp, value_cmp}
 use Rattle.sq_value.specs.OrderLaws.{row_cmp-total, row_cmp-antisymmetric}
 use Rattle.sq_value.specs.declared.value.Value.{Value}
-use Rattle.sq_value.specs.declared.value.Value.TheVariants.{Null, Int, Text}
+use Rattle.sq_value.specs.declared.value.Value.TheVariants.{Null, Int}
 use Rattle.sq_expr.specs.Kinds.{AreOfKinds, IsOfKind}
 use Rattle.sq_expr.specs.Meaning.{column_of, is_null}
 use Rattle.sq_expr.specs.Bigint.{first_not_bigint, is_bigint}
@@ -26,7 +26,7 @@ use Rattle.sq_algebra.specs.Operators.{keep}
 use Rattle.sq_algebra.specs.ZSet.{entries, total}
 use Rattle.sq_algebra.proofs.NonNegativeLemmas.{nonnegative-keep, total-keep-le}
 use Rattle.sq_zset.proofs.Masses.{mass-total}
-use Rattle.sq_ops.specs.Aggregates.{aggregated, call_value, count_in, first_sum_outside, greater, group_columns, group_of, group_row, groups_of, has_value, keyed_sums, lesser, rows_of_group, shown_rows, sum_in, sums_of, tested_sum, values_in}
+use Rattle.sq_ops.specs.Aggregates.{aggregated, call_value, count_in, first_sum_outside, greater, group_columns, group_of, group_row, groups_of, has_value, lesser, rows_of_group, shown_rows, sum_in, sums_of, tested_sum, values_in}
 use Rattle.sq_ops.specs.declared.aggregate.AggSpec.{AggSpec}
 use Rattle.sq_ops.specs.declared.aggregate.Call.{Call}
 use Rattle.sq_ops.proofs.Ranges.{none_of_each, none_outside}
@@ -49,7 +49,7 @@ total_fits z h = few_fit (total z) (above_zero z h) h.few
 pub kept_listed : (p : List Value → Bool) (z : Rows) → IsListed z → IsListed (keep p z)
 kept_listed p z h = record {
   above = nonnegative-keep row_cmp row_cmp-total row_cmp-antisymmetric p z h.above;
-  few = let less = total-keep-le row_cmp row_cmp-total row_cmp-antisymmetric p z h.above in let few = h.few in omega (arith, ints)
+  few = let less = total-keep-le row_cmp row_cmp-total row_cmp-antisymmetric p z h.above in let few = h.few in omega (arith, ints);
 }
 
 pub part_listed : (key : List Value → List Value) (c : List Value) (z : Rows) → IsListed z → IsListed (at_key row_cmp key c z)

@@ -1,6 +1,6 @@
 -- What holds of the rows of a sum, a difference, an image or a product, if it holds of those that it is made of. These are laws of
 -- sq_zset in their form: for any predicate on rows, in place of a test.
-use Rattle.std.proofs.Common.{◌≡◌, ℕ, zero, suc, ◌<◌, List, [], ◌∷◌, ◌++◌, map, length, Bool, true, false, cond, ℤ, pos, ◌+ℤ◌, ◌*ℤ◌, get_or, Ordering, Less, Equal, Greater, sym, subst, arith}
+use Rattle.std.proofs.Common.{List, [], ◌∷◌, ◌++◌, map, Bool, true, false, cond, ℤ, pos, ◌+ℤ◌, ◌*ℤ◌, get_or, Less, Equal, Greater, sym, subst}
 use Rattle.std.specs.List.{All, AllByRecursion, filter, flat_map}
 use Rattle.std.specs.Ordering.{int_eq, match_ordering}
 use Rattle.std.proofs.lemmas.List.Elements.{All-from_recursion, recursion_from_All}

@@ -1,9 +1,9 @@
 -- Plain parts that stand where they may are a circuit.
-use Rattle.std.proofs.Common.{◌≡◌, ℕ, zero, suc, ◌+◌, ◌<◌, ◌≤◌, ◌^◌, Bool, true, false, not, ◌&&◌, ◌||◌, cond, List, [], ◌∷◌, ◌++◌, length, get_or, ℤ, pos, negsuc, ◌-ℤ◌, ◌≤ℤ◌, unsigned_abs, Some, None, refl, sym, ap, ap₂, subst, ◌∙◌, arith}
+use Rattle.std.proofs.Common.{◌≡◌, ℕ, zero, suc, ◌<◌, ◌≤◌, ◌^◌, Bool, true, false, not, ◌&&◌, ◌||◌, List, [], ◌∷◌, length, get_or, ℤ, pos, negsuc, ◌-ℤ◌, ◌≤ℤ◌, unsigned_abs, Some, refl, sym, ap, subst, ◌∙◌, arith}
 use Rattle.std.specs.Prelude.{Option, int_lt, slice_get}
-use mathlib.Core.Logic.{◌⊎◌, inl, inr}
+use mathlib.Core.Logic.{inl, inr}
 use Rattle.std.proofs.lemmas.Bool.{and_parts, ltb-false}
-use Rattle.std.proofs.lemmas.Option.{same_Some, slice_get_within, slice_get-get_or}
+use Rattle.std.proofs.lemmas.Option.{slice_get_within, slice_get-get_or}
 use borrow.Author.Differences.{ints}
 use Rattle.sq_value.specs.declared.value.Value.{Value}
 use Rattle.sq_value.specs.Order.{row_cmp}
@@ -16,12 +16,11 @@ use Rattle.sq_zset.specs.Collecting.{mass_of}
 use Rattle.sq_zset.proofs.Masses.{mass-minus}
 use Rattle.sq_zset.proofs.Rows.{weight-minus}
 use Rattle.sq_circuit.specs.Circuits.{has_fault, has_number_outside, is_sound, kinds_at, kinds_in, lists_too_many, node_at, node_in, table_at, whole, whole_from}
-use Rattle.sq_circuit.specs.Invariant.{HasKinds, IsBounded, IsCircuit, IsEarlier, IsGood, IsListed, IsNear, IsPart, IsSoundAt, NeedsListed}
+use Rattle.sq_circuit.specs.Invariant.{HasKinds, IsCircuit, IsEarlier, IsGood, IsListed, IsPart, NeedsListed}
 use Rattle.sq_circuit.specs.Nodes.{Rows, Source, left_source, operator, paired, right_source}
-use Rattle.sq_circuit.specs.Plain.{CountsAt, GivesKinds, IsCounted, IsPlain, IsPlainNode, IsPlainPart}
+use Rattle.sq_circuit.specs.Plain.{CountsAt, GivesKinds, IsCounted, IsPlain, IsPlainNode}
 use Rattle.sq_circuit.specs.Verdicts.{source_sound}
 use Rattle.sq_circuit.specs.declared.circuit.Part.{Part}
-use Rattle.sq_circuit.specs.declared.node.LinearOp.{LinearOp}
 use Rattle.sq_circuit.specs.declared.node.LinearOp.TheVariants.{Keep, Project, Pad}
 use Rattle.sq_circuit.specs.declared.node.Node.{Node}
 use Rattle.sq_circuit.specs.declared.node.Node.TheVariants.{Table, Linear, Join, Distinct, Aggregate, Plus, Minus, View}
@@ -56,14 +55,14 @@ weight_few z h row = let less = weight-le-total row_cmp row_cmp-total row_cmp-an
 pub listed_light : (z : Rows) → IsListed z → IsLight z
 listed_light z h = record {
   few = let few = listed_few z h in omega arith;
-  small = λ row. between (weight row z) (h.above row) (weight_few z h row)
+  small = λ row. between (weight row z) (h.above row) (weight_few z h row);
 }
 
 pub difference_light : (y z : Rows) → IsListed y → IsListed z → IsLight (minus y z)
 difference_light y z a b = record {
   few = let left = listed_few y a in let right = listed_few z b in let both = mass-minus y z in omega arith;
   small = λ row. subst (λ n. unsigned_abs n ≤ 2 ^ 61) (sym (weight-minus row y z))
-      (difference (weight row y) (weight row z) (a.above row) (weight_few y a row) (b.above row) (weight_few z b row))
+      (difference (weight row y) (weight row z) (a.above row) (weight_few y a row) (b.above row) (weight_few z b row));
 }
 
 -- not too many
@@ -177,12 +176,12 @@ module _ (c : List Part) (parts : (i : ℕ) (p : Part) → slice_get c i ≡ Som
       kinds = rows_of_difference (λ row. AreOfKinds row p.kinds) (whole c tables a) (whole c tables b)
           (own_kinds (kinds_at c a) (whole c tables a) gives.0 (kinds_of a l ls)) (own_kinds (kinds_at c b) (whole c tables b) gives.1 (kinds_of b r rs));
       light = difference_light (whole c tables a) (whole c tables b) (list_of a l ls shape.1) (list_of b r rs shape.2);
-      listed = never_counted (Minus a b) is (λ h. h) (minus (whole c tables a) (whole c tables b))
+      listed = never_counted (Minus a b) is (λ h. h) (minus (whole c tables a) (whole c tables b));
     }
     claim (View j v) is l r ls rs fine inside gives shape = record {
       kinds = own_kinds (kinds_at c j) (whole c tables j) gives (kinds_of j l ls);
       light = (held i p long earlier j l ls).light;
-      listed = never_counted (View j v) is (λ h. h) (whole c tables j)
+      listed = never_counted (View j v) is (λ h. h) (whole c tables j);
     }
 
     tested : (p.place && lists_too_many (whole c tables i)) || has_number_outside p.node (from (left_source p.node)) ≡ false
@@ -248,9 +247,9 @@ plain_circuit c few parts plain = record {
         of_kinds = held.kinds;
         place = λ is. held.listed (place_counted (node_at c) p.node p.place (plain i p at).plain is);
         needed = λ k q there needs. held.listed (subst (λ o. CountsAt (node_in o)) at (needs_counted (node_at c) q.node q.place i (plain k q there).plain needs));
-        few = λ _. held.light.few
+        few = λ _. held.light.few;
       };
   steady = λ old new i p at _ before after row.
       far (weight row (whole c old i)) (weight row (whole c new i))
-      ((holds c parts plain old before.good i p at before.sound).light.small row) ((holds c parts plain new after.good i p at after.sound).light.small row)
+      ((holds c parts plain old before.good i p at before.sound).light.small row) ((holds c parts plain new after.good i p at after.sound).light.small row);
 }

@@ -17,7 +17,6 @@ use Rattle.sq_ops.specs.declared.aggregate.AggSpec.{AggSpec}
 use Rattle.sq_ops.specs.declared.aggregate.Call.{Call}
 use Rattle.sq_circuit.specs.Circuits.{kinds_at, node_at}
 use Rattle.sq_circuit.specs.declared.circuit.Part.{Part}
-use Rattle.sq_circuit.specs.declared.node.LinearOp.{LinearOp}
 use Rattle.sq_circuit.specs.declared.node.LinearOp.TheVariants.{Keep, Project, Pad}
 use Rattle.sq_circuit.specs.declared.node.Node.{Node}
 use Rattle.sq_circuit.specs.declared.node.Node.TheVariants.{Table, Linear, Join, Distinct, Aggregate, Plus, Minus, View}

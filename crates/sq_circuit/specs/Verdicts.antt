@@ -1,11 +1,12 @@
 -- Words for laws of verdicts, and of what a node needs.
 --     IsToBlame c tables v      a node with a fault belongs to the view v
+--     IsMadeOfReads c tables i p      the Z-set, the fault and the soundness of the part p at i, by what it reads
 --     IsAtMost o w              a number that may be missing is there, and is not above w
 --     source_sound c tables s   what a source reads is sound
 --     unsound_owner c tables i  the owner of the node i, if it is not sound
-use Rattle.std.specs.Prelude.{◌≡◌, ℕ, ◌<◌, ◌≤◌, Bool, true, if◌then◌else◌, List, length, Option, Some, None}
-use Rattle.sq_circuit.specs.Circuits.{has_fault, is_sound, owner_at}
-use Rattle.sq_circuit.specs.Nodes.{Rows, Source, read}
+use Rattle.std.specs.Prelude.{◌≡◌, ℕ, ◌<◌, ◌≤◌, Bool, true, not, ◌&&◌, if◌then◌else◌, List, length, Option, Some, None}
+use Rattle.sq_circuit.specs.Circuits.{fault_of, has_fault, is_sound, owner_at, whole, whole_from}
+use Rattle.sq_circuit.specs.Nodes.{Rows, Source, left_source, operator, read, right_source}
 use Rattle.sq_circuit.specs.declared.circuit.Part.{Part}
 
 pub record IsToBlame (c : List Part) (tables : List Rows) (v : ℕ) : Type 0 where
@@ -23,3 +24,8 @@ source_sound c tables s = read (λ t. true) (is_sound c tables) true s
 
 abbrev pub unsound_owner : List Part → List Rows → ℕ → Option ℕ
 unsound_owner c tables i = if is_sound c tables i then None else owner_at c i
+
+pub record IsMadeOfReads (c : List Part) (tables : List Rows) (i : ℕ) (p : Part) : Type 0 where
+  pub value : whole c tables i ≡ operator p.node (whole_from c tables (left_source p.node)) (whole_from c tables (right_source p.node))
+  pub fault : has_fault c tables i ≡ fault_of (Some p) (whole_from c tables) (whole c tables i)
+  pub sound : is_sound c tables i ≡ not (has_fault c tables i) && (source_sound c tables (left_source p.node) && source_sound c tables (right_source p.node))

@@ -1,13 +1,14 @@
 //! What holds of circuits, each as the contract of a function that does nothing.
-ghost use Rattle.std.specs.Prelude.{◌≡◌, ◌<◌, ◌++◌, ℕ, List, length, slice_get, not, ◌&&◌, Some, None, true, false};
+ghost use Rattle.std.specs.Prelude.{◌≡◌, ◌<◌, ◌^◌, ◌++◌, ℕ, List, length, slice_get, Some, None, true, false};
 ghost use Rattle.sq_expr.specs.declared.expr.Kind.{Kind as ColumnKind};
 ghost use Rattle.sq_zset.specs.Range.{IsInRange};
 ghost use Rattle.sq_circuit.specs.Along.{least_below};
-ghost use Rattle.sq_circuit.specs.Circuits.{fault_of, has_fault, is_sound, owner_at, verdict, whole, whole_from};
-ghost use Rattle.sq_circuit.specs.Invariant.{AreEarlier, HasKinds, IsCircuit, IsSoundAt, table_and_view};
+ghost use Rattle.sq_circuit.specs.Circuits.{has_fault, is_sound, owner_at, verdict, whole};
+ghost use Rattle.sq_circuit.specs.Invariant.{AreEarlier, HasKinds, IsCircuit, IsPart, IsSoundAt, table_and_view};
 ghost use Rattle.sq_circuit.specs.NodeLaws.{IsLawful};
-ghost use Rattle.sq_circuit.specs.Nodes.{Rows, left_source, operator, right_source};
-ghost use Rattle.sq_circuit.specs.Verdicts.{IsAtMost, IsToBlame, source_sound, unsound_owner};
+ghost use Rattle.sq_circuit.specs.Nodes.{Rows, left_source, right_source};
+ghost use Rattle.sq_circuit.specs.Plain.{IsPlain};
+ghost use Rattle.sq_circuit.specs.Verdicts.{IsAtMost, IsMadeOfReads, IsToBlame, source_sound, unsound_owner};
 ghost use Rattle.sq_circuit.specs.declared.circuit.Part.{Part as Known};
 ghost use Rattle.sq_circuit.specs.declared.node.Node.{Node as Operator};
 
@@ -22,12 +23,7 @@ pub fn every_node_is_lawful()
 /// A node depends on what it reads alone: its Z-set is its operator over it, it has a fault by what it reads and its
 /// Z-set, and it is sound if it has no fault and what it reads is sound.
 pub fn nodes_depend_on_what_they_read()
-    ensures value { (c : List Known) (tables : List Rows) (i : ℕ) (p : Known) → AreEarlier c → slice_get c i ≡ Some p
-        → whole c tables i ≡ operator p.node (whole_from c tables (left_source p.node)) (whole_from c tables (right_source p.node)) }
-    ensures fault { (c : List Known) (tables : List Rows) (i : ℕ) (p : Known) → AreEarlier c → slice_get c i ≡ Some p
-        → has_fault c tables i ≡ fault_of (Some p) (whole_from c tables) (whole c tables i) }
-    ensures sound { (c : List Known) (tables : List Rows) (i : ℕ) (p : Known) → AreEarlier c → slice_get c i ≡ Some p
-        → is_sound c tables i ≡ not (has_fault c tables i) && (source_sound c tables (left_source p.node) && source_sound c tables (right_source p.node)) }
+    ensures reads { (c : List Known) (tables : List Rows) (i : ℕ) (p : Known) → AreEarlier c → slice_get c i ≡ Some p → IsMadeOfReads c tables i p }
     ensures earlier { (c : List Known) → IsCircuit c → AreEarlier c }
 {}
 
@@ -56,6 +52,12 @@ pub fn verdicts_are_least_owners()
     ensures none { (c : List Known) → IsCircuit c → (tables : List Rows) → verdict c tables ≡ None → (i : ℕ) → i < length c → has_fault c tables i ≡ false }
     ensures clear { (c : List Known) → IsCircuit c → (tables : List Rows) → ((i : ℕ) → i < length c → has_fault c tables i ≡ false) → verdict c tables ≡ None }
     ensures unsound { (c : List Known) → IsCircuit c → (tables : List Rows) → verdict c tables ≡ least_below (unsound_owner c tables) (length c) }
+{}
+
+/// Parts that stand where they may, and of which every node is a place but for tables, differences and views, are a
+/// circuit, if only views and distincts read differences and views, and each part gives its kinds.
+pub fn plain_parts_are_a_circuit()
+    ensures { (c : List Known) → length c < 2 ^ 32 → ((i : ℕ) (p : Known) → slice_get c i ≡ Some p → IsPart c i p) → IsPlain c → IsCircuit c }
 {}
 
 /// A table of any kinds and a view of it are a circuit.

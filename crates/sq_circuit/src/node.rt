@@ -1,9 +1,4 @@
 //! The nodes of a circuit, and `LinearOp`, the linear operators that a node may have.
-ghost use Rattle.std.specs.Prelude.{◌≡◌, ◌↔◌, ◌++◌, ℤ, Some, None, OnOk, OnErr, IfOk, IsTrue};
-ghost use Rattle.sq_expr.specs.Bigint.{first_not_bigint};
-ghost use Rattle.sq_ops.specs.Fits.{FitsRow};
-ghost use Rattle.sq_circuit.specs.LinearOps.{SuitsOp, images_of, tested_of};
-
 use sq_ops::{AggSpec, Keep, Linear, OpFault, Pad, Pairing, Project};
 use sq_value::Row;
 use std::alloc::Global;

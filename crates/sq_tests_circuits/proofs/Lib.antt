@@ -1,0 +1,4 @@
+pub mod Samples
+pub mod NoneBelow
+pub mod Masses
+pub mod Tables
