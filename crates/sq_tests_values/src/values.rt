@@ -69,6 +69,27 @@ fn copies_of_rows_are_equal(rt: HostRuntime) -> Result<(), Fail> {
     Ok(())
 }
 
+// A row and a copy of it are the same as before, once the row is shared.
+fn check_shared(rt: &impl Abort, alloc: Global, numbers: &[Option<i64>]) -> Result<(), Fail> {
+    let before = row_of(alloc, numbers)?;
+    let shared = row_of(alloc, numbers)?.share(alloc)?;
+    let copy = shared.clone_row(alloc)?;
+    assert!(rt; shared == before);
+    assert!(rt; copy == before);
+    assert_eq!(rt; hash_of(&copy), hash_of(&before));
+    Ok(())
+}
+
+#[test]
+fn shared_rows_are_the_same(rt: HostRuntime) -> Result<(), Fail> {
+    let alloc = rt.alloc();
+    let numbers = [Some(1), None, Some(-3), Some(4), None];
+    for length in [0, 3, 5] {
+        check_shared(&rt, alloc, &numbers[..length])?;
+    }
+    Ok(())
+}
+
 // The rows of these numbers and NULLs.
 fn rows_of(alloc: Global, rows: &[&[Option<i64>]]) -> Result<Vec<Row>, Fail> {
     let mut list = Vec::new(alloc);
