@@ -11,3 +11,4 @@ pub mod Lower
 pub mod Following
 pub mod Grouped
 pub mod Plainly
+pub mod Composing

@@ -7,3 +7,4 @@ pub mod NodeLaws
 pub mod Costs
 pub mod Verdicts
 pub mod Plain
+pub mod Pieces

@@ -1,12 +1,15 @@
 //! What holds of circuits, each as the contract of a function that does nothing.
-ghost use Rattle.std.specs.Prelude.{◌≡◌, ◌<◌, ◌^◌, ◌++◌, ℕ, List, length, slice_get, Some, None, true, false};
+ghost use Rattle.std.specs.Prelude.{◌≡◌, ◌<◌, ◌^◌, ◌++◌, ℕ, Bool, List, length, slice_get, Some, None, true, false};
+ghost use Rattle.sq_algebra.specs.Keyed.{Shards};
 ghost use Rattle.sq_expr.specs.declared.expr.Kind.{Kind as ColumnKind};
+ghost use Rattle.sq_value.specs.declared.value.Value.{Value as Datum};
 ghost use Rattle.sq_zset.specs.Range.{IsInRange};
 ghost use Rattle.sq_circuit.specs.Along.{least_below};
 ghost use Rattle.sq_circuit.specs.Circuits.{has_fault, is_sound, owner_at, verdict, whole};
 ghost use Rattle.sq_circuit.specs.Invariant.{AreEarlier, HasKinds, IsCircuit, IsPart, IsSoundAt, table_and_view};
 ghost use Rattle.sq_circuit.specs.NodeLaws.{IsLawful};
 ghost use Rattle.sq_circuit.specs.Nodes.{Rows, left_source, right_source};
+ghost use Rattle.sq_circuit.specs.Pieces.{AddUpToChanges, AreChanged};
 ghost use Rattle.sq_circuit.specs.Plain.{IsPlain};
 ghost use Rattle.sq_circuit.specs.Verdicts.{IsAtMost, IsMadeOfReads, IsToBlame, source_sound, unsound_owner};
 ghost use Rattle.sq_circuit.specs.declared.circuit.Part.{Part as Known};
@@ -18,6 +21,12 @@ use crate::{Circuit, LinearOp, Node, Part};
 /// rows there are its standing rows alone. `IsLawful` has these laws by name, and no law above has to tell kinds apart.
 pub fn every_node_is_lawful()
     ensures { (n : Operator) → IsLawful n }
+{}
+
+/// Over all shards the pieces of each node add up to the change of its Z-set, whatever the shards are, also if a row's key
+/// is another one at each node. At the start, before which nothing was shown, they add up to the Z-set.
+pub fn pieces_add_up_to_changes()
+    ensures { (first : Bool) (c : List Known) → AreEarlier c → (S : Shards (List Datum)) (old : List Rows) (change : ℕ → Rows) (new : List Rows) → AreChanged first old change new → AddUpToChanges first c S old change new }
 {}
 
 /// A node depends on what it reads alone: its Z-set is its operator over it, it has a fault by what it reads and its
