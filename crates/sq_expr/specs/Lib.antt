@@ -10,3 +10,4 @@ pub mod Same
 pub mod Shifted
 pub mod Bigint
 pub mod Extremes
+pub mod Both

@@ -10,6 +10,7 @@ mod compute;
 mod cond;
 mod copy;
 mod expr;
+mod joined;
 pub mod laws;
 mod limit;
 mod number;
@@ -18,7 +19,7 @@ mod shift;
 mod typing;
 mod value;
 
-pub use compute::{eval, test};
+pub use compute::{eval, test, test_both};
 pub use cond::{Cmp, Cond};
 pub use expr::{Expr, Func, Kind, Term};
 pub use limit::bound;

@@ -2,7 +2,7 @@
 use Rattle.std.proofs.Common.{◌≡◌, ◌⊎◌, inl, inr, ℕ, zero, suc, ℤ, pos, negsuc, ◌+ℤ◌, ◌≤ℤ◌, List, [], ◌∷◌, ◌++◌, map, Bool, true, false, cond, not, ◌&&◌, get_or, T, refl, sym, ap, subst, ◌∙◌, Ordering, Less, Equal, Greater, is_lt, is_eq, arith}
 use Rattle.std.specs.Cmp.{IsTotalOrder, back_total}
 use Rattle.std.specs.FinMap.{IsAntisymmetric}
-use Rattle.std.specs.List.{All, AllByRecursion, flat_map, fold, list_all}
+use Rattle.std.specs.List.{AllByRecursion, flat_map, fold, list_all}
 use Rattle.std.specs.Ordering.{flip_args, ordering_reverse}
 use Rattle.std.proofs.lemmas.List.Elements.{recursion_from_All}
 use borrow.Author.Differences.{ints}
@@ -12,7 +12,7 @@ use Rattle.sq_value.specs.Order.{row_cmp, value_cmp}
 use Rattle.sq_value.specs.OrderLaws.{row_cmp-total, row_cmp-antisymmetric, value_cmp-total}
 use Rattle.sq_algebra.specs.Groups.{IsAdditive, z_sets}
 use Rattle.sq_algebra.specs.Operators.{IsNonNegative, image, weighing}
-use Rattle.sq_algebra.specs.ZSet.{ZSet, entries, entries_canonical, is_nonzero, weight, weight_in}
+use Rattle.sq_algebra.specs.ZSet.{ZSet, entries, entries_canonical, is_nonzero, weight_in}
 use Rattle.sq_algebra.proofs.GroupLemmas.{IsAdditive-compose}
 use Rattle.sq_algebra.proofs.LinearLemmas.{entry_weight}
 use Rattle.sq_algebra.proofs.Weights.{nonzero_weights_from}
@@ -20,7 +20,7 @@ use Rattle.sq_expr.specs.Meaning.{column_of, is_null}
 use Rattle.sq_zset.proofs.RowKeys.{at_key-IsAdditive}
 use Rattle.sq_zset.proofs.RowOperators.{image-IsAdditive}
 use Rattle.sq_zset.proofs.Rows.{weight-from_pairs}
-use Rattle.sq_ops.specs.Aggregates.{greater, group_of, has_value, lesser, rows_of_group, values_in}
+use Rattle.sq_ops.specs.Aggregates.{greater, group_of, lesser, rows_of_group, values_in}
 use Rattle.sq_ops.specs.Arguments.{IsGreatest, IsKeptNowhere, IsLeast, argument_of, argument_weight, arguments, arguments_of_group}
 use Rattle.sq_ops.specs.declared.aggregate.AggSpec.{AggSpec}
 use Rattle.sq_ops.proofs.Extremes.{flipped-antisymmetric, greater_is, lesser_is, nulls_last, nulls_last-antisymmetric, nulls_last-total, pick}

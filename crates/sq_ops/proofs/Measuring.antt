@@ -1,5 +1,5 @@
 -- What the rows of a group count for, row after row.
-use Rattle.std.proofs.Common.{◌≡◌, ℕ, zero, suc, ◌+◌, ◌*◌, ◌^◌, ◌≤◌, List, [], ◌∷◌, ◌++◌, Bool, true, false, cond, not, take, length, ℤ, pos, negsuc, ◌+ℤ◌, ◌*ℤ◌, ◌≤ℤ◌, unsigned_abs, Some, refl, sym, ap, ap₂, subst, ◌∙◌, mul-add, take_all, get_or, lit≤, to_z, of_z, to_z-of_z, arith}
+use Rattle.std.proofs.Common.{◌≡◌, ℕ, zero, suc, ◌+◌, ◌*◌, ◌^◌, ◌≤◌, List, [], ◌∷◌, ◌++◌, true, false, cond, take, length, ℤ, pos, negsuc, ◌+ℤ◌, ◌*ℤ◌, ◌≤ℤ◌, unsigned_abs, Some, refl, sym, ap, ap₂, subst, ◌∙◌, mul-add, take_all, get_or, lit≤, to_z, of_z, to_z-of_z, arith}
 use Rattle.std.specs.Prelude.{slice_get, FitsSigned}
 use Rattle.std.specs.Int.{w64, w128}
 use Rattle.std.specs.List.{AllByRecursion}

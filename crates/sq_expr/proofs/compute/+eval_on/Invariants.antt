@@ -1,10 +1,10 @@
 use Rattle.std.proofs.Common.{◌≡◌}
 use Rattle.sq_expr.specs.Meaning.{value_of}
 use Rattle.sq_expr.proofs.Exact.{sum_so_far, product_so_far}
-use Rattle.sq_expr.proofs.compute.+eval.Given as goal
+use Rattle.sq_expr.proofs.compute.+eval_on.Given as goal
 
-abbrev pub decreases-eval : goal.decreases-eval
-decreases-eval l = goal.size-eval l
+abbrev pub decreases-eval_on : goal.decreases-eval_on
+decreases-eval_on l = goal.size-eval_on l
 
 -- the terms so far are summed up
 abbrev pub invariant-loop-term : goal.invariant-loop-term

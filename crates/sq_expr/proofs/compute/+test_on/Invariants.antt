@@ -1,9 +1,9 @@
 use Rattle.std.proofs.Common.{◌≡◌}
 use Rattle.sq_expr.proofs.Truths.{least_so_far, greatest_so_far}
-use Rattle.sq_expr.proofs.compute.+test.Given as goal
+use Rattle.sq_expr.proofs.compute.+test_on.Given as goal
 
-abbrev pub decreases-test : goal.decreases-test
-decreases-test l = goal.size-test l
+abbrev pub decreases-test_on : goal.decreases-test_on
+decreases-test_on l = goal.size-test_on l
 
 -- the least of the members so far
 abbrev pub invariant-loop-member : goal.invariant-loop-member
