@@ -1,0 +1,5 @@
+pub mod Runs
+pub mod Changes
+pub mod Keys
+pub mod Looking
+pub mod Inside
