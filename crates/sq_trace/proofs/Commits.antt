@@ -1,7 +1,6 @@
 -- Which parts stay, what comes behind them, and that the rule of lengths and the ranges hold afterwards.
-use Rattle.std.proofs.Common.{◌≡◌, ℕ, zero, suc, ◌+◌, ◌-◌, ◌*◌, ◌/◌, ◌<◌, ◌≤◌, List, [], ◌∷◌, ◌++◌, take, take_all, length, get_or, ℤ, Option, Some, None, ◌⊎◌, inl, inr, refl, sym, ap, ap₂, subst, ◌∙◌, arith}
+use Rattle.std.proofs.Common.{◌≡◌, ℕ, zero, suc, ◌+◌, ◌-◌, ◌/◌, ◌<◌, ◌≤◌, List, [], ◌∷◌, ◌++◌, take, length, get_or, ℤ, Option, None, ◌⊎◌, inl, inr, refl, sym, ap, ap₂, subst, ◌∙◌, arith}
 use Rattle.sq_algebra.specs.Groups.{AbelianGroup, IsAbelian}
-use Rattle.sq_algebra.proofs.AbelianLemmas.{neutral_right}
 use Rattle.sq_trace.specs.declared.entry.Entry.{Entry}
 use Rattle.sq_trace.specs.Runs.{Place, at, content, IsRun, IsTwiceAsLong, KeepsLengths, FrontsInRange, AddsUpInRange}
 use Rattle.sq_trace.specs.Changes.{changed, committed}

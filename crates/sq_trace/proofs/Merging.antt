@@ -1,14 +1,14 @@
 -- One turn of a merge, and what all turns make.
-use Rattle.std.proofs.Common.{◌≡◌, ℕ, zero, suc, ◌+◌, ◌-◌, ◌<◌, ◌≤◌, List, [], ◌∷◌, ◌++◌, take, drop, take_all, length-drop, length, get_or, ℤ, Option, Some, None, Less, Equal, Greater, if◌then◌else◌, refl, sym, ap, ap₂, subst, ◌∙◌, arith}
+use Rattle.std.proofs.Common.{◌≡◌, ℕ, ◌-◌, List, [], ◌∷◌, ◌++◌, take, drop, take_all, length-drop, length, get_or, ℤ, Option, Some, None, Less, Equal, Greater, if◌then◌else◌, refl, sym, ap, ap₂, subst, ◌∙◌, arith}
 use Rattle.std.specs.Option.{option_to_list}
 use Rattle.std.specs.Ordering.{is_eq}
 use Rattle.std.specs.declared.cmp.Ordering.{Ordering}
 use Rattle.sq_algebra.specs.Groups.{AbelianGroup, IsAbelian}
 use Rattle.sq_algebra.proofs.AbelianLemmas.{neutral_right, interchange, plus_swap}
 use Rattle.sq_trace.specs.declared.entry.Entry.{Entry}
-use Rattle.sq_trace.specs.Runs.{Place, place_of, place_cmp, given, at, content, AllAbove, IsRun, IsKept}
+use Rattle.sq_trace.specs.Runs.{Place, place_of, place_cmp, given, at, AllAbove, IsRun}
 use Rattle.sq_trace.specs.Inside.{Before, first_places_cmp, Added, IsSum, IsOutside, StopsAt, BeginsWith}
-use Rattle.sq_trace.proofs.Places.{place_cmp-total, same_place, place_itself, less_turned, greater_turned, above_more, above-append, before-drop, before-append}
+use Rattle.sq_trace.proofs.Places.{same_place, place_itself, greater_turned, above_more, above-append, before-drop, before-append}
 use Rattle.sq_trace.proofs.Sums.{given_same, given_apart, at-append, at_above}
 
 same_some : {X : Type 0} {a b : X} → Some a ≡ Some b → a ≡ b

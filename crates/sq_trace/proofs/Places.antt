@@ -1,15 +1,13 @@
 -- The order of places, and entries that stand above or below a place.
-use Rattle.std.proofs.Common.{◌≡◌, ℕ, zero, suc, ◌+◌, ◌<◌, ◌≤◌, List, [], ◌∷◌, ◌++◌, take, drop, length, Less, Equal, Greater, refl, sym, ap, ap₂, subst, ◌∙◌, arith}
-use Rattle.std.specs.Ordering.{ordering_reverse, ordering_then, is_lt, is_gt}
+use Rattle.std.proofs.Common.{◌≡◌, ℕ, zero, suc, List, [], ◌∷◌, ◌++◌, drop, Less, Equal, Greater, refl, ap, ◌∙◌}
+use Rattle.std.specs.Ordering.{ordering_reverse, ordering_then}
 use Rattle.std.specs.declared.cmp.Ordering.{Ordering}
-use Rattle.std.specs.Cmp.{IsTotalOrder, on_total, then_total, tied_itself, tied_back, alike_right}
-use Rattle.std.specs.FinMap.{IsAntisymmetric}
-use Rattle.sq_value.specs.declared.value.Value.{Value}
+use Rattle.std.specs.Cmp.{IsTotalOrder, on_total, then_total, tied_itself}
 use Rattle.sq_value.specs.Order.{row_cmp}
 use Rattle.sq_value.specs.OrderLaws.{row_cmp-total, row_cmp-antisymmetric}
 use Rattle.sq_trace.specs.declared.entry.Entry.{Entry}
 use Rattle.sq_trace.specs.Runs.{Place, place_of, place_cmp, AllAbove}
-use Rattle.sq_trace.specs.Inside.{AllBelow, Before}
+use Rattle.sq_trace.specs.Inside.{Before}
 
 pub place_cmp-total : IsTotalOrder place_cmp
 place_cmp-total = then_total (on_total (λ p. p.0) row_cmp-total) (on_total (λ p. p.1) row_cmp-total)

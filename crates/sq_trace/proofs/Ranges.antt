@@ -1,13 +1,13 @@
 -- Sums over the first parts of a trace, and over the first entries of a change.
-use Rattle.std.proofs.Common.{◌≡◌, ℕ, zero, suc, ◌+◌, ◌<◌, ◌≤◌, List, [], ◌∷◌, ◌++◌, take, drop, length, get_or, ℤ, Option, Some, None, Less, Equal, Greater, add-one, take-append-drop, refl, sym, ap, ap₂, subst, ◌∙◌, arith}
+use Rattle.std.proofs.Common.{◌≡◌, ℕ, zero, suc, ◌+◌, ◌<◌, List, [], ◌∷◌, ◌++◌, take, drop, length, get_or, ℤ, Option, Some, None, Less, Equal, Greater, add-one, take-append-drop, refl, sym, ap, ap₂, subst, ◌∙◌, arith}
 use Rattle.std.specs.declared.cmp.Ordering.{Ordering}
 use Rattle.sq_algebra.specs.Groups.{AbelianGroup, IsAbelian}
 use Rattle.sq_algebra.proofs.AbelianLemmas.{neutral_right}
 use Rattle.sq_trace.specs.declared.entry.Entry.{Entry}
-use Rattle.sq_trace.specs.Runs.{Place, place_of, place_cmp, given, at, content, AllAbove, IsRun, IsKept, FrontsInRange, AddsUpInRange}
+use Rattle.sq_trace.specs.Runs.{Place, place_of, place_cmp, given, at, content, IsRun, IsKept, FrontsInRange}
 use Rattle.sq_trace.specs.Changes.{changed, IsFirstOutside}
 use Rattle.sq_trace.specs.Inside.{AllBelow}
-use Rattle.sq_trace.proofs.Places.{place_cmp-total, same_place, place_itself, less_turned, greater_turned, above_more}
+use Rattle.sq_trace.proofs.Places.{same_place, above_more}
 use Rattle.sq_trace.proofs.Sums.{given_same, given_apart, at-append, at_above, at_below, content-last}
 use Rattle.sq_trace.proofs.Searching.{above_got, drop_there, run-drop}
 

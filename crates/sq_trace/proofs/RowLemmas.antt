@@ -1,5 +1,5 @@
 -- All entries of a trace, and those of one key.
-use Rattle.std.proofs.Common.{◌≡◌, ℕ, zero, suc, ◌+◌, ◌-◌, ◌<◌, ◌≤◌, List, [], ◌∷◌, ◌++◌, take, drop, take_all, take-append-drop, length-drop, length, get_or, ℤ, Option, Some, None, Less, Equal, Greater, refl, sym, ap, ap₂, subst, ◌∙◌, arith}
+use Rattle.std.proofs.Common.{◌≡◌, ℕ, zero, suc, ◌+◌, ◌<◌, ◌≤◌, List, [], ◌∷◌, take, drop, take-append-drop, length, get_or, ℤ, Option, None, Less, Equal, Greater, refl, sym, ap, ap₂, subst, ◌∙◌, arith}
 use Rattle.std.specs.declared.cmp.Ordering.{Ordering}
 use Rattle.std.specs.Ordering.{ordering_then, ordering_reverse}
 use Rattle.sq_value.specs.declared.value.Value.{Value}
@@ -8,12 +8,12 @@ use Rattle.sq_value.specs.OrderLaws.{row_cmp-total, row_cmp-antisymmetric, cmp-s
 use Rattle.sq_algebra.specs.Groups.{AbelianGroup, IsAbelian}
 use Rattle.sq_algebra.proofs.AbelianLemmas.{neutral_right}
 use Rattle.sq_trace.specs.declared.entry.Entry.{Entry}
-use Rattle.sq_trace.specs.Runs.{Place, place_of, place_cmp, given, at, content, AllAbove, IsRun, IsKept, FrontsInRange}
+use Rattle.sq_trace.specs.Runs.{Place, place_of, place_cmp, at, AllAbove, IsRun, FrontsInRange}
 use Rattle.sq_trace.specs.Looking.{AllOfKey, AreRowsOf, AreAllRows, IsRangeOf}
 use Rattle.sq_trace.specs.Inside.{AllBelow, StartsAt, IsBound, IsSum}
-use Rattle.sq_trace.proofs.Places.{place_cmp-total, same_place, place_itself, greater_turned, above_more}
+use Rattle.sq_trace.proofs.Places.{place_cmp-total, same_place, above_more}
 use Rattle.sq_trace.proofs.Sums.{given_same, given_apart, at-append, at_above, at_below}
-use Rattle.sq_trace.proofs.Ranges.{content_next, take_all_of}
+use Rattle.sq_trace.proofs.Ranges.{content_next}
 use Rattle.sq_trace.proofs.Searching.{run-drop}
 
 -- ---- keys

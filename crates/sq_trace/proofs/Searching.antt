@@ -1,13 +1,13 @@
 -- Binary search in a run.
-use Rattle.std.proofs.Common.{◌≡◌, ℕ, zero, suc, ◌+◌, ◌-◌, ◌/◌, ◌<◌, ◌≤◌, List, [], ◌∷◌, ◌++◌, take, drop, length, get_or, slice_get, ℤ, Option, Some, None, Less, Equal, Greater, IfNone, IfSome, add-one, take-append-drop, refl, sym, ap, ap₂, subst, ◌∙◌, arith}
+use Rattle.std.proofs.Common.{◌≡◌, ℕ, zero, suc, ◌+◌, ◌-◌, ◌/◌, ◌<◌, ◌≤◌, List, [], ◌∷◌, take, drop, length, get_or, ℤ, Option, Less, Equal, add-one, take-append-drop, refl, sym, ap, ap₂, subst, ◌∙◌, arith}
 use Rattle.std.specs.declared.cmp.Ordering.{Ordering}
 use Rattle.sq_algebra.specs.Groups.{AbelianGroup, IsAbelian}
 use Rattle.sq_algebra.proofs.AbelianLemmas.{neutral_right}
 use Rattle.sq_trace.specs.declared.entry.Entry.{Entry}
-use Rattle.sq_trace.specs.Runs.{Place, place_of, place_cmp, given, at, content, AllAbove, IsRun, IsKept}
+use Rattle.sq_trace.specs.Runs.{Place, place_of, place_cmp, given, at, AllAbove, IsRun}
 use Rattle.sq_trace.specs.Inside.{AllBelow, StartsAt, IsBound, IsFound}
-use Rattle.sq_trace.proofs.Places.{place_cmp-total, same_place, place_itself, less_turned, greater_turned, above_more}
-use Rattle.sq_trace.proofs.Sums.{order_cases, given_same, given_apart, at-append, at_above, at_below}
+use Rattle.sq_trace.proofs.Places.{place_cmp-total, same_place, greater_turned, above_more}
+use Rattle.sq_trace.proofs.Sums.{order_cases, given_same, at-append, at_above, at_below}
 
 pub drop_there : {X : Type 0} (xs : List X) (i : ℕ) (x : X) → i < length xs → x ≡ get_or xs i x → drop i xs ≡ x ∷ drop (suc i) xs
 drop_there [] i x low e = absurd (omega arith)

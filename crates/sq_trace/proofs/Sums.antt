@@ -1,13 +1,13 @@
 -- What entries add up to at a place.
-use Rattle.std.proofs.Common.{◌≡◌, ℕ, zero, suc, ◌<◌, ◌≤◌, List, [], ◌∷◌, ◌++◌, take, drop, length, ℤ, Option, Some, None, Less, Equal, Greater, if◌then◌else◌, take-append-drop, refl, sym, ap, ap₂, subst, ◌∙◌, arith}
+use Rattle.std.proofs.Common.{◌≡◌, List, [], ◌∷◌, ◌++◌, Less, Equal, Greater, if◌then◌else◌, refl, sym, ap, ap₂, ◌∙◌}
 use Rattle.std.specs.Ordering.{is_eq}
 use Rattle.std.specs.declared.cmp.Ordering.{Ordering}
 use Rattle.sq_algebra.specs.Groups.{AbelianGroup, IsAbelian}
-use Rattle.sq_algebra.proofs.AbelianLemmas.{neutral_right, interchange, plus_swap}
+use Rattle.sq_algebra.proofs.AbelianLemmas.{neutral_right}
 use Rattle.sq_trace.specs.declared.entry.Entry.{Entry}
-use Rattle.sq_trace.specs.Runs.{Place, place_of, place_cmp, given, at, content, AllAbove, IsRun, IsKept}
-use Rattle.sq_trace.specs.Inside.{AllBelow, StartsAt, IsBound}
-use Rattle.sq_trace.proofs.Places.{place_cmp-total, same_place, place_itself, less_turned, greater_turned, above_more}
+use Rattle.sq_trace.specs.Runs.{Place, place_of, place_cmp, given, at, content, AllAbove}
+use Rattle.sq_trace.specs.Inside.{AllBelow}
+use Rattle.sq_trace.proofs.Places.{place_itself, less_turned}
 
 pub order_cases : (o : Ordering) → (o ≡ Less → ⊥) → (o ≡ Equal → ⊥) → o ≡ Greater
 order_cases Less a b = absurd (a refl)

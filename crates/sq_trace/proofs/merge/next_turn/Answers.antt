@@ -1,6 +1,5 @@
-use Rattle.std.proofs.Common.{◌≡◌, [], ◌∷◌, ◌∙◌, sym, ap, subst, Some, None, Err, slice_index_or}
+use Rattle.std.proofs.Common.{◌≡◌, [], ◌∷◌, ◌∙◌, sym, ap, subst, Some, Err, slice_index_or}
 use Rattle.std.proofs.lemmas.Result.{err_from_is_err_and}
-use Rattle.std.specs.Option.{option_to_list}
 use Rattle.sq_zset.specs.declared.pair.ZFault.TheVariants.{Weight}
 use Rattle.sq_trace.specs.Inside.{Added, BeginsWith}
 use Rattle.sq_trace.proofs.Merging.{begins_left, begins_right, begins_both, stops}

@@ -1,4 +1,4 @@
-use Rattle.std.proofs.Common.{◌≡◌, ◌<◌, ◌≤◌, ◌/◌, length, subst, ap, sym, leb-true, arith}
+use Rattle.std.proofs.Common.{◌<◌, ◌≤◌, ◌/◌, length, subst, leb-true, arith}
 use Rattle.sq_trace.proofs.Commits.{behind_older}
 use Rattle.sq_trace.proofs.merged.may_stand_behind.Goals as goal
 

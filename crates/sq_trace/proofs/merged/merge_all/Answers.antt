@@ -1,4 +1,4 @@
-use Rattle.std.proofs.Common.{subst, sym}
+use Rattle.std.proofs.Common.{subst}
 use Rattle.sq_trace.specs.Inside.{IsSum}
 use Rattle.sq_trace.proofs.Commits.{all_in_range, merging_all}
 use Rattle.sq_trace.proofs.merged.merge_all.Goals as goal

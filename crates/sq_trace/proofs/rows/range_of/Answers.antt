@@ -1,6 +1,5 @@
-use Rattle.std.proofs.Common.{rules, ◌≡◌, ◌≤◌, ◌<◌, ◌-◌, ◌∙◌, take, drop, take_all, length-drop, length, refl, sym, ap, true, false, arith}
+use Rattle.std.proofs.Common.{◌-◌, ◌∙◌, take, drop, take_all, length-drop, length, refl, sym, ap, arith}
 use Rattle.sq_value.specs.OrderLaws.{row_eq-same}
-use Rattle.sq_trace.specs.Looking.{AllOfKey}
 use Rattle.sq_trace.proofs.RowLemmas.{Leaves, keyed_next, leaves_at, leaves_none, range_is}
 use Rattle.sq_trace.proofs.rows.range_of.Goals.{then-loop-count-test+else-eq, else-loop-count-test}
 use Rattle.sq_trace.proofs.rows.range_of.Goals as goal

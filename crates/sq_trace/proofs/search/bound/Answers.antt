@@ -1,4 +1,3 @@
-use Rattle.std.proofs.Common.{refl}
 use Rattle.sq_trace.proofs.Searching.{search_on}
 use Rattle.sq_trace.proofs.search.bound.Goals as goal
 

@@ -1,4 +1,4 @@
-use Rattle.std.proofs.Common.{◌≡◌, ◌≤◌, ◌-◌, length, take, drop}
+use Rattle.std.proofs.Common.{◌≤◌, ◌-◌, length, take, drop}
 use Rattle.sq_trace.specs.Inside.{AllBelow, StartsAt}
 use Rattle.sq_trace.proofs.search.bound.Given as goal
 

@@ -1,5 +1,4 @@
-use Rattle.std.proofs.Common.{rules, ◌≡◌, ◌<◌, ◌≤◌, ◌∙◌, sym, length, slice_index_or, Some, None, Less, Equal, Greater, inl, inr, arith}
-use Rattle.sq_trace.specs.Runs.{place_cmp, place_of}
+use Rattle.std.proofs.Common.{◌<◌, ◌≤◌, ◌∙◌, sym, length, inl, inr, arith}
 use Rattle.sq_trace.proofs.Searching.{none_behind, other_there, found_there}
 use Rattle.sq_trace.proofs.search.found.Goals as goal
 

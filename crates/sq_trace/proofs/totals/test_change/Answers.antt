@@ -1,7 +1,6 @@
-use Rattle.std.proofs.Common.{rules, ◌≡◌, ◌∙◌, length, take, refl, sym, ap, subst, Some, None, Err}
+use Rattle.std.proofs.Common.{◌≡◌, Err}
 use Rattle.std.proofs.lemmas.Result.{err_from_is_err_and}
 use Rattle.sq_zset.specs.declared.pair.ZFault.TheVariants.{Weight}
-use Rattle.sq_trace.specs.Runs.{content}
 use Rattle.sq_trace.proofs.Ranges.{in_range_got, change_starts, change_goes_on, change_stops, total_in_range}
 use Rattle.sq_trace.proofs.totals.test_change.Goals as goal
 

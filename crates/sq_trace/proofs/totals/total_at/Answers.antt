@@ -1,4 +1,4 @@
-use Rattle.std.proofs.Common.{rules, ◌≡◌, ◌∙◌, sym, ap, ap₂}
+use Rattle.std.proofs.Common.{◌∙◌, sym, ap, ap₂}
 use Rattle.sq_trace.specs.Runs.{at}
 use Rattle.sq_trace.proofs.Ranges.{content_next, next_in_range}
 use Rattle.sq_trace.proofs.totals.total_at.Goals as goal

@@ -1,0 +1,10 @@
+//! Tests of traces: what no clause says, that calls succeed with ample memory, and that the answers and the steps are the
+//! intended ones. Nothing else stands here.
+#![tactic(auto)]
+
+#[cfg(test)]
+mod random;
+#[cfg(test)]
+mod rows;
+#[cfg(test)]
+mod traces;

@@ -1,0 +1,79 @@
+//! What the tests share: changes of one payload, and look-ups with the number of their steps.
+use sq_base::Steps;
+use sq_trace::{Entry, Keyed, Trace};
+use sq_value::{NoMemory, Row, Value};
+use sq_zset::{ZFault, weight_from};
+use std::alloc::Global;
+
+/// A row of this number.
+pub fn row_of(alloc: Global, number: i64) -> Result<Row, NoMemory> {
+    let mut values = Vec::new(alloc);
+    values.push(Value::Int(number))?;
+    Ok(Row::of(values))
+}
+
+/// The change of one weight.
+pub fn change_of(alloc: Global, key: i64, row: i64, weight: i64) -> Result<Keyed<i64>, ZFault> {
+    let payload = weight_from(i128::from(weight))?;
+    let (key, row) = (row_of(alloc, key)?, row_of(alloc, row)?);
+    let mut entries = Vec::new(alloc);
+    entries.push(Entry { key, row, payload })?;
+    Ok(Keyed::of(alloc, entries)?)
+}
+
+/// Prepares a change and commits it.
+pub fn apply(alloc: Global, trace: &mut Trace<i64>, change: &Keyed<i64>) -> Result<(), ZFault> {
+    let prepared = trace.prepare(alloc, change)?;
+    trace.commit(prepared);
+    Ok(())
+}
+
+/// Adds a weight to a trace.
+pub fn add(
+    alloc: Global,
+    trace: &mut Trace<i64>,
+    key: i64,
+    row: i64,
+    weight: i64,
+) -> Result<(), ZFault> {
+    let change = change_of(alloc, key, row, weight)?;
+    apply(alloc, trace, &change)
+}
+
+/// What a trace holds at a key and a row, and the steps that it took to look.
+pub fn look(
+    alloc: Global,
+    trace: &Trace<i64>,
+    key: i64,
+    row: i64,
+) -> Result<(Option<i64>, u64), NoMemory> {
+    let (key, row) = (row_of(alloc, key)?, row_of(alloc, row)?);
+    let mut steps = Steps::begin(());
+    let answer = trace.payload_of(alloc, &key, &row, &mut steps);
+    let count = steps.count();
+    steps.end();
+    Ok((answer?, count))
+}
+
+/// The entries of a key, and the steps that it took to find them.
+pub fn look_up_key(
+    alloc: Global,
+    trace: &Trace<i64>,
+    key: i64,
+) -> Result<(Vec<Entry<i64>>, u64), NoMemory> {
+    let key = row_of(alloc, key)?;
+    let mut steps = Steps::begin(());
+    let answer = trace.rows_of(alloc, &key, &mut steps);
+    let count = steps.count();
+    steps.end();
+    Ok((answer?, count))
+}
+
+/// All entries, and the steps that it took to walk through them.
+pub fn walk(alloc: Global, trace: &Trace<i64>) -> Result<(Vec<Entry<i64>>, u64), NoMemory> {
+    let mut steps = Steps::begin(());
+    let answer = trace.walk(alloc, &mut steps);
+    let count = steps.count();
+    steps.end();
+    Ok((answer?, count))
+}
