@@ -1,5 +1,5 @@
 //! Many entries of a trace: all of them, or those of one key.
-ghost use Rattle.std.specs.Prelude.{◌≡◌, [], List, None, IfOk};
+ghost use Rattle.std.specs.Prelude.{◌≡◌, [], None, IfOk};
 ghost use Rattle.sq_trace.specs.Runs.{Place, IsRun, FrontsInRange, at};
 ghost use Rattle.sq_trace.specs.Looking.{AreRowsOf, AreAllRows, IsRangeOf};
 ghost use Rattle.sq_trace.specs.Inside.{IsSum};

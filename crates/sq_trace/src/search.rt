@@ -1,5 +1,5 @@
 //! Binary search in a run.
-ghost use Rattle.std.specs.Prelude.{◌≡◌, ◌+◌, ◌≤◌, None, IfNone, IfSome};
+ghost use Rattle.std.specs.Prelude.{◌≡◌, None, IfNone, IfSome};
 ghost use Rattle.sq_trace.specs.Runs.{IsRun, at};
 ghost use Rattle.sq_trace.specs.Inside.{IsBound, IsFound};
 

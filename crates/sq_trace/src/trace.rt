@@ -1,7 +1,7 @@
 //! Traces: payloads by key and row that change by what was prepared before.
-ghost use Rattle.std.specs.Prelude.{◌≡◌, ◌≤◌, [], ℕ, ℤ, length, take, None, IfOk, OnErr};
+ghost use Rattle.std.specs.Prelude.{◌≡◌, ◌≤◌, [], ℕ, ℤ, length, IfOk, OnErr};
 ghost use Rattle.sq_base.specs.Causes.{raised};
-ghost use Rattle.sq_trace.specs.Runs.{Place, IsRun, AddsUpInRange, FrontsInRange, KeepsLengths, at, content};
+ghost use Rattle.sq_trace.specs.Runs.{Place, IsRun, AddsUpInRange, FrontsInRange, KeepsLengths, content};
 ghost use Rattle.sq_trace.specs.Looking.{stepped, AreRowsOf, AreAllRows};
 ghost use Rattle.sq_trace.specs.Changes.{changed, committed, IsFirstOutside, Shows};
 
