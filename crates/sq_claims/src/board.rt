@@ -1,5 +1,6 @@
 //! A board, on which the holders of its passes claim the tasks of a level.
 ghost use Rattle.std.specs.Prelude.{◌≡◌, ◌≢◌, ℕ, ◌-◌, ◌<◌, ◌≤◌, [], map, length, replicate, All, IfOk, IfSome, IfNone};
+ghost use Rattle.std.specs.List.{AllByRecursion};
 ghost use Rattle.std.specs.List.Sorted.{IsStrictlyIncreasing};
 ghost use Rattle.sq_claims.specs.Claims.{Claimed, total, fresh, claims_one, ends_at};
 ghost use Rattle.sq_claims.specs.Hands.{IsSeatOf, Holds, IsCount, IsNewSeat, taken_in};
@@ -44,6 +45,7 @@ pub struct Pass {
 impl Model for Pass {
     ghost use Rattle.std.specs.Prelude.{◌≡◌, ◌≤◌, [], length, if◌then◌else◌};
     ghost use Rattle.std.specs.List.{AllByRecursion};
+    ghost use Rattle.std.specs.List.{AllByRecursion};
     ghost use Rattle.std.specs.List.Sorted.{IsStrictlyIncreasing};
     ghost use Rattle.sq_claims.specs.Claims.{Turn};
 
@@ -77,11 +79,12 @@ impl Board {
     /// more.
     ///
     /// This is one atomic step, which finds a word and raises it by one. The word found is the answer
-    /// if it is below the number of tasks, and else it ends the pass. Takes no memory and waits for
-    /// nobody.
+    /// if it is below the number of tasks, and else it ends the pass. It is above all earlier claims of
+    /// the pass. Takes no memory and waits for nobody.
     pub fn claim(&self, pass: &mut Pass) -> Option<u32>
         requires board { pass.old.board ≡ self.now }
         ensures some { IfSome result (λ i. (i < self.now.tasks) × (pass.old.late ≡ []) × (pass.new ≡ claims_one pass.old i)) }
+        ensures higher { IfSome result (λ i. AllByRecursion (λ c. c < i) pass.old.claims) }
         ensures none { IfNone result ((word : ℕ) × (self.now.tasks ≤ word) × (pass.new ≡ ends_at pass.old word)) }
         ensures ended { pass.old.late ≢ [] → pass.new ≡ pass.old }
     {
