@@ -105,6 +105,7 @@ impl Board {
     pub fn close(self, passes: Vec<Pass>) -> u32
         requires all { length passes.items ≡ self.passes }
         requires board { All (λ p. p.board ≡ self) passes.items }
+        ensures most { result ≤ self.tasks }
         ensures claimed { Claimed result (map (λ p. p.claims) passes.items) }
         ensures ended { 0 < total (λ p. length p.late) passes.items → result ≡ self.tasks }
     {
