@@ -1,5 +1,7 @@
-//! Tests of what workers run on: the board of claims, in one thread, where its answers are fixed.
+//! Tests of what workers run on, and of their levels.
 #![tactic(auto)]
 
 #[cfg(test)]
 mod boards;
+#[cfg(test)]
+mod levels;
