@@ -6,3 +6,6 @@ pub mod Ranges
 pub mod Commits
 pub mod RowLemmas
 pub mod HalfLemmas
+pub mod Cuts
+pub mod Nexts
+pub mod Firsts

@@ -31,7 +31,7 @@ module _ {A : Type 0} (G : AbelianGroup A) (outside : A → Option ℤ) where
   run-drop [] (suc i) run = tt
   run-drop (e ∷ es) (suc i) run = run-drop es i run.2
 
-  below_to : (p : Place) (es : List (Entry A)) (m : ℕ) (d : Entry A) → IsRun G outside es → m < length es → place_cmp (place_of (get_or es m d)) p ≡ Less → AllBelow p (take (suc m) es)
+  pub below_to : (p : Place) (es : List (Entry A)) (m : ℕ) (d : Entry A) → IsRun G outside es → m < length es → place_cmp (place_of (get_or es m d)) p ≡ Less → AllBelow p (take (suc m) es)
   below_to p [] m d run low less = tt
   below_to p (e ∷ es) zero d run low less = (less, tt)
   below_to p (e ∷ es) (suc m) d run low less = (

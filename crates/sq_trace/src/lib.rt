@@ -2,11 +2,15 @@
 #![tactic(auto)]
 
 mod entry;
+mod extremes;
+mod kept;
 mod keyed;
 mod merge;
 mod merged;
+mod next;
 mod rows;
 mod search;
+mod side;
 mod sorting;
 mod totals;
 mod trace;

@@ -56,7 +56,7 @@ impl<P: Group> Model for Prepared<P> {
 }
 
 /// Counts so many steps.
-fn step<L>(steps: &mut Steps<L>, n: usize)
+pub(crate) fn step<L>(steps: &mut Steps<L>, n: usize)
     ensures count { steps.new.count ≡ stepped n steps.old.count }
     ensures ledger { steps.new.ledger ≡ steps.old.ledger }
 {
@@ -77,6 +77,14 @@ impl<P: Group> Trace<P> {
         Trace {
             runs: Vec::new(alloc),
         }
+    }
+
+    /// The runs, from the oldest on. Takes no memory.
+    pub(crate) fn parts(&self) -> &[Keyed<P>]
+        ensures parts { result.now ≡ self.now }
+        ensures fronts { FrontsInRange P.addition P.first_outside self.now }
+    {
+        &self.runs
     }
 
     /// What the trace holds at a key and a row, or `NoMemory` when memory runs out. Takes one step.
