@@ -2,7 +2,7 @@
 use sq_base::Steps;
 use sq_trace::{Entry, Keyed, Trace};
 use sq_value::{NoMemory, Row, Value};
-use sq_zset::{ZFault, weight_from};
+use sq_zset::{ZFault, ZSet, weight_from};
 use std::alloc::Global;
 
 /// A row of this number.
@@ -76,4 +76,61 @@ pub fn walk(alloc: Global, trace: &Trace<i64>) -> Result<(Vec<Entry<i64>>, u64),
     let count = steps.count();
     steps.end();
     Ok((answer?, count))
+}
+
+/// The Z-set of rows of some numbers, less that of others.
+pub fn zset_of(alloc: Global, added: &[i64], removed: &[i64]) -> Result<ZSet, ZFault> {
+    let added = ZSet::of_rows(alloc, rows_of(alloc, added)?)?;
+    let removed = ZSet::of_rows(alloc, rows_of(alloc, removed)?)?;
+    added.minus(alloc, &removed)
+}
+
+fn rows_of(alloc: Global, numbers: &[i64]) -> Result<Vec<Row>, NoMemory> {
+    let mut rows = Vec::new(alloc);
+    for number in numbers {
+        rows.push(row_of(alloc, *number)?)?;
+    }
+    Ok(rows)
+}
+
+/// The number of a row, if it has one.
+fn number_of(row: Option<Row>) -> Option<i64> {
+    let row = row?;
+    if row.len() == 0 {
+        return None;
+    }
+    match row.at(0) {
+        Value::Int(number) => Some(*number),
+        Value::Null | Value::Text(_) => None,
+    }
+}
+
+/// The first row of a key under a change, and the steps that it took to find it.
+pub fn least(
+    alloc: Global,
+    trace: &Trace<i64>,
+    key: i64,
+    change: &ZSet,
+) -> Result<(Option<i64>, u64), NoMemory> {
+    let key = row_of(alloc, key)?;
+    let mut steps = Steps::begin(());
+    let answer = trace.least_of(alloc, &key, change, &mut steps);
+    let count = steps.count();
+    steps.end();
+    Ok((number_of(answer?), count))
+}
+
+/// The last row of a key under a change, and the steps that it took to find it.
+pub fn greatest(
+    alloc: Global,
+    trace: &Trace<i64>,
+    key: i64,
+    change: &ZSet,
+) -> Result<(Option<i64>, u64), NoMemory> {
+    let key = row_of(alloc, key)?;
+    let mut steps = Steps::begin(());
+    let answer = trace.greatest_of(alloc, &key, change, &mut steps);
+    let count = steps.count();
+    steps.end();
+    Ok((number_of(answer?), count))
 }
