@@ -9,3 +9,4 @@ pub mod HalfLemmas
 pub mod Cuts
 pub mod Nexts
 pub mod Firsts
+pub mod Ascending

@@ -1,5 +1,6 @@
 -- What the functions inside promise one another.
-use Rattle.std.specs.Prelude.{◌≡◌, ℕ, ◌+◌, ◌<◌, ◌≤◌, ℤ, List, [], ◌∷◌, take, drop, length, Option, Some, None, MatchOption}
+use Rattle.std.specs.Prelude.{◌≡◌, ℕ, ◌+◌, ◌<◌, ◌≤◌, ℤ, List, [], ◌∷◌, take, drop, length, Bool, true, Option, Some, None, MatchOption}
+use Rattle.std.specs.Ordering.{is_lt}
 use Rattle.std.specs.declared.cmp.Ordering.{Ordering}
 use Rattle.std.specs.declared.cmp.Ordering.TheVariants.{Less, Greater}
 use Rattle.sq_algebra.specs.Groups.{AbelianGroup}
@@ -27,6 +28,11 @@ pub record IsBound {A : Type 0} (p : Place) (es : List (Entry A)) (i : ℕ) : Ty
 abbrev pub Before : {A : Type 0} → List (Entry A) → List (Entry A) → Type 0
 Before [] es = Unit {0}
 Before (d ∷ done) es = AllAbove (place_of d) es × Before done es
+
+-- whether an entry stands below the next one, if there is one
+abbrev pub stands_below : {A : Type 0} → Entry A → Option (Entry A) → Bool
+stands_below e None = true
+stands_below e (Some f) = is_lt (place_cmp (place_of e) (place_of f))
 
 -- how the first places compare; a list with no more entries comes last
 abbrev pub first_places_cmp : {A : Type 0} → List (Entry A) → List (Entry A) → Option Ordering

@@ -4,7 +4,7 @@ ghost use Rattle.sq_trace.specs.Runs.{IsRun};
 ghost use Rattle.sq_trace.specs.Keys.{AreDistinct, AllInRange, IsRunOf};
 
 use crate::Entry;
-use crate::sorting::sorted;
+use crate::sorting::{is_run, sorted};
 use sq_value::NoMemory;
 use sq_zset::Group;
 use std::alloc::Global;
@@ -33,7 +33,7 @@ impl<P: Group> Model for Keyed<P> {
 impl<P: Group> Keyed<P> {
     /// The run of these entries, of which no two have the same key and row, or `NoMemory` when memory runs out.
     ///
-    /// Entries whose payload is zero are dropped.
+    /// Entries whose payload is zero are dropped. Entries that ascend already are taken as they are, without a copy.
     pub fn of(alloc: Global, entries: Vec<Entry<P>>) -> Result<Keyed<P>, NoMemory>
         requires distinct { AreDistinct entries.items }
         requires in_range { AllInRange P.first_outside entries.items }
@@ -41,6 +41,9 @@ impl<P: Group> Keyed<P> {
     {
         // That zero lies in the range is known from this call alone.
         let _zero = P::zero(alloc);
+        if is_run(&entries) {
+            return Ok(Keyed { entries });
+        }
         let run = sorted(alloc, &entries)?;
         Ok(Keyed { entries: run })
     }

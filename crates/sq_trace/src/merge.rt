@@ -137,7 +137,7 @@ pub(crate) fn merge<P: Group>(
     ensures outside { (number : ℤ) → result ≡ Err (ZFault.Weight number) → IsOutside P.addition P.first_outside left.now right.now number }
 {
     let (mut left, mut right) = (left, right);
-    let mut list = Vec::new(alloc);
+    let mut list = Vec::with_capacity(alloc, left.len() + right.len())?;
     while let Some(turn) = next_turn(alloc, left, right)? {
         push_made(&mut list, turn.made)?;
         left = &left[turn.from_left..];

@@ -8,7 +8,7 @@ use Rattle.sq_trace.proofs.merge.merge.Goals as goal
 
 pub returns-in_err-turn-clause-outside : goal.returns-in_err-turn-clause-outside
 returns-in_err-turn-clause-outside g c number e =
-    let (fault, is, same) = err_from_is_err_and c.from_residual.result c.from_residual.ensures.1 in
+    let (fault, is, same) = err_from_is_err_and c.from_residual-in_err-turn.result c.from_residual-in_err-turn.ensures.1 in
     let was : c.next_turn.result ≡ Err (Weight number) = cc (c.in_err-turn.was, is, same, e) in
     merging_stops g.P.Group.addition g.met.P.Group.laws g.P.Group.first_outside c.args.left.now c.args.right.now c.loop-list.left.now c.loop-list.right.now c.loop-list.list.items number c.loop-list.invariant (c.next_turn.ensures.outside number was)
 
