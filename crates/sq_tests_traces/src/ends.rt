@@ -1,5 +1,5 @@
 //! The first and the last row of a key under a change, with their steps.
-use crate::rows::{add, greatest, least, zset_of};
+use crate::rows::{add, apply, change_of_two, greatest, least, zset_of};
 use sq_trace::Trace;
 use sq_zset::ZFault;
 use std::alloc::Global;
@@ -32,7 +32,8 @@ fn check_ends(
 #[test]
 fn a_row_that_a_change_takes_away_is_passed_over(rt: HostRuntime) -> Result<(), Fail> {
     let alloc = rt.alloc();
-    let trace = trace_of(alloc, &[(5, 2), (7, 1)])?;
+    let mut trace = Trace::new(alloc);
+    apply(alloc, &mut trace, &change_of_two(alloc, false, (2, 1))?)?;
     check_ends(
         &rt,
         alloc,

@@ -1,4 +1,8 @@
-//! What the tests share: changes of one payload, and look-ups with the number of their steps.
+//! What the tests share: changes of one payload or two, and look-ups with the number of their steps.
+ghost use Rattle.std.specs.Prelude.{◌≡◌, ◌∷◌, [], None, IfOk};
+ghost use Rattle.sq_value.specs.declared.value.Value.TheVariants.{Int};
+ghost use Rattle.sq_zset.specs.Range.{number_outside};
+
 use sq_base::Steps;
 use sq_trace::{Entry, Keyed, Trace};
 use sq_value::{NoMemory, Row, Value};
@@ -6,18 +10,46 @@ use sq_zset::{ZFault, ZSet, weight_from};
 use std::alloc::Global;
 
 /// A row of this number.
-pub fn row_of(alloc: Global, number: i64) -> Result<Row, NoMemory> {
+pub fn row_of(alloc: Global, number: i64) -> Result<Row, NoMemory>
+    ensures { IfOk result (λ row. row ≡ Int number ∷ []) }
+{
     let mut values = Vec::new(alloc);
     values.push(Value::Int(number))?;
     Ok(Row::of(values))
 }
 
-/// The change of one weight.
-pub fn change_of(alloc: Global, key: i64, row: i64, weight: i64) -> Result<Keyed<i64>, ZFault> {
+/// An entry of one weight.
+fn entry_of(alloc: Global, key: i64, row: i64, weight: i64) -> Result<Entry<i64>, ZFault>
+    ensures { IfOk result (λ entry. (entry.row ≡ Int row ∷ []) × (number_outside entry.payload ≡ None)) }
+{
     let payload = weight_from(i128::from(weight))?;
     let (key, row) = (row_of(alloc, key)?, row_of(alloc, row)?);
+    Ok(Entry { key, row, payload })
+}
+
+/// The change of one weight.
+pub fn change_of(alloc: Global, key: i64, row: i64, weight: i64) -> Result<Keyed<i64>, ZFault> {
     let mut entries = Vec::new(alloc);
-    entries.push(Entry { key, row, payload })?;
+    entries.push(entry_of(alloc, key, row, weight)?)?;
+    Ok(Keyed::of(alloc, entries)?)
+}
+
+/// The change of the weights of two rows of the key 1, in this order. The rows are 5 and 7, or 7 and 5 if `descends`.
+pub fn change_of_two(
+    alloc: Global,
+    descends: bool,
+    weights: (i64, i64),
+) -> Result<Keyed<i64>, ZFault> {
+    let five = entry_of(alloc, 1, 5, weights.0)?;
+    let seven = entry_of(alloc, 1, 7, weights.1)?;
+    let mut entries = Vec::new(alloc);
+    if descends {
+        entries.push(seven)?;
+        entries.push(five)?;
+    } else {
+        entries.push(five)?;
+        entries.push(seven)?;
+    }
     Ok(Keyed::of(alloc, entries)?)
 }
 

@@ -1,5 +1,5 @@
 //! Look-ups after commits, with their steps.
-use crate::rows::{add, look, look_up_key, row_of, walk};
+use crate::rows::{add, apply, change_of_two, look, look_up_key, row_of, walk};
 use sq_trace::{Entry, Trace};
 use sq_zset::ZFault;
 use std::alloc::Global;
@@ -63,4 +63,28 @@ fn a_row_that_is_taken_away_is_gone(rt: HostRuntime) -> Result<(), Fail> {
     add(alloc, &mut trace, 1, 7, -1)?;
     let (rows, _) = walk(alloc, &trace)?;
     check_entries(&rt, alloc, &rows, &[(1, 5, 2)])
+}
+
+#[test]
+fn entries_in_either_order_make_one_run(rt: HostRuntime) -> Result<(), Fail> {
+    let alloc = rt.alloc();
+    for descends in [false, true] {
+        let mut trace = Trace::new(alloc);
+        let change = change_of_two(alloc, descends, (2, 1))?;
+        apply(alloc, &mut trace, &change)?;
+        let (rows, count) = walk(alloc, &trace)?;
+        assert_eq!(rt; count, 2);
+        check_entries(&rt, alloc, &rows, &[(1, 5, 2), (1, 7, 1)])?;
+    }
+    Ok(())
+}
+
+#[test]
+fn an_entry_without_a_weight_is_dropped(rt: HostRuntime) -> Result<(), Fail> {
+    let alloc = rt.alloc();
+    for descends in [false, true] {
+        let change = change_of_two(alloc, descends, (0, 1))?;
+        check_entries(&rt, alloc, change.entries(), &[(1, 7, 1)])?;
+    }
+    Ok(())
 }
