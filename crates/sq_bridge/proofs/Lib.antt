@@ -1,0 +1,4 @@
+pub mod Lists
+pub mod Joining
+pub mod LeftJoining
+pub mod Staging

@@ -1,0 +1,7 @@
+pub mod Rows
+pub mod Joins
+pub mod Nodes
+pub mod Groups
+pub mod Queries
+pub mod Views
+pub mod Meaning

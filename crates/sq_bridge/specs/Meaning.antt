@@ -1,0 +1,43 @@
+-- What a node has to be to stand for what a query gives.
+--     IsWorth n a          the rows of the node are the Z-set of the answer's rows.      Begins q      each block begins with a comma
+use Rattle.std.specs.Prelude.{◌≡◌, Bool, true, false, List, [], ◌∷◌}
+use Rattle.sq_typed.specs.declared.query.Block.{Block, out-Block}
+use Rattle.sq_typed.specs.declared.query.FromItem.{FromItem}
+use Rattle.sq_typed.specs.declared.query.FromJoin.{FromJoin}
+use Rattle.sq_typed.specs.declared.query.FromJoin.TheVariants.{Comma, Inner, Left}
+use Rattle.sq_typed.specs.declared.query.Query.{Query}
+use Rattle.sq_typed.specs.Fit.{Pairwise}
+use Rattle.sq_typed.specs.From.{Answer, Source}
+use Rattle.sq_typed.specs.Within.{BlockOf}
+use Rattle.sq_bridge.specs.Nodes.{Node, NodeSource}
+use Rattle.sq_bridge.specs.Rows.{listed}
+
+pub record IsWorth (n : Node) (a : Answer) : Type 0 where
+  pub width : n.width ≡ a.width
+  pub rows : n.rows ≡ listed a.rows
+
+-- a source, joined in the same way
+pub record IsWorthSource (n : NodeSource) (s : Source) : Type 0 where
+  pub join : n.join ≡ s.join
+  pub worth : IsWorth n.node s.answer
+
+abbrev pub AreWorth : List NodeSource → List Source → Type 0
+AreWorth ns ss = Pairwise IsWorthSource ns ss
+
+-- ---- the first source of a block
+
+abbrev pub is_comma : FromJoin → Bool
+is_comma Comma = true
+is_comma (Inner on) = false
+is_comma (Left on) = false
+
+abbrev pub begins : List FromItem → Bool
+begins [] = false
+begins (s ∷ ss) = is_comma s.join
+
+abbrev pub BeginsWithComma : Source → Type 0
+BeginsWithComma s = s.join ≡ Comma
+
+-- the first source of each block of a query is joined to nothing
+abbrev pub Begins : Query → Type 0
+Begins q = (b : Block) → BlockOf q b → begins (out-Block b).sources ≡ true

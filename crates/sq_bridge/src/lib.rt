@@ -1,0 +1,7 @@
+//! What a typed program means over lists of rows, in operators over Z-sets: the laws that join the two.
+//!
+//! No code here runs. Each function has an empty body, and its contract is a law.
+#![tactic(auto)]
+
+pub mod join_laws;
+pub mod stage_laws;
