@@ -1,13 +1,22 @@
 -- What a node has to be to stand for what a query gives.
 --     IsWorth n a          the rows of the node are the Z-set of the answer's rows.      Begins q      each block begins with a comma
-use Rattle.std.specs.Prelude.{◌≡◌, Bool, true, false, List, [], ◌∷◌}
+use Rattle.std.specs.Prelude.{◌≡◌, Bool, true, false, List, [], ◌∷◌, Option, Some, None, ⊤}
+use Rattle.std.specs.List.{AllByRecursion}
+use Rattle.sq_expr.specs.declared.expr.Expr.{Expr}
+use Rattle.sq_expr.specs.declared.expr.Func.{Func}
+use Rattle.sq_expr.specs.Meaning.{num}
+use Rattle.sq_expr.specs.Typing.{IsOfSort}
+use Rattle.sq_expr.specs.declared.typing.Sort.TheVariants.{Numeric}
+use Rattle.sq_typed.specs.declared.query.BlockCall.{BlockCall}
+use Rattle.sq_typed.specs.declared.query.Grouping.{Grouping}
+use Rattle.sq_typed.specs.Blocks.{is_sum}
 use Rattle.sq_typed.specs.declared.query.Block.{Block, out-Block}
 use Rattle.sq_typed.specs.declared.query.FromItem.{FromItem}
 use Rattle.sq_typed.specs.declared.query.FromJoin.{FromJoin}
 use Rattle.sq_typed.specs.declared.query.FromJoin.TheVariants.{Comma, Inner, Left}
 use Rattle.sq_typed.specs.declared.query.Query.{Query}
-use Rattle.sq_typed.specs.Fit.{Pairwise}
-use Rattle.sq_typed.specs.From.{Answer, Source}
+use Rattle.sq_typed.specs.Fit.{Pairwise, is_count_all}
+use Rattle.sq_typed.specs.From.{Answer, Row, Source}
 use Rattle.sq_typed.specs.Within.{BlockOf}
 use Rattle.sq_bridge.specs.Nodes.{Node, NodeSource}
 use Rattle.sq_bridge.specs.Rows.{listed}
@@ -41,3 +50,17 @@ BeginsWithComma s = s.join ≡ Comma
 -- the first source of each block of a query is joined to nothing
 abbrev pub Begins : Query → Type 0
 Begins q = (b : Block) → BlockOf q b → begins (out-Block b).sources ≡ true
+
+-- ---- calls
+
+-- a call without an argument counts rows, and what SUM adds is no text
+abbrev pub CallSuits : List Row → Func → Option Expr → Type 0
+CallSuits rows f None = is_count_all f ≡ true
+CallSuits rows f (Some e) = is_sum f ≡ true → AllByRecursion (λ row. IsOfSort Numeric (num e row)) rows
+
+abbrev pub CallsSuit : List Row → List BlockCall → Type 0
+CallsSuit rows calls = AllByRecursion (λ c. CallSuits rows c.func c.arg) calls
+
+abbrev pub GroupsSuit : List Row → Option Grouping → Type 0
+GroupsSuit rows None = ⊤
+GroupsSuit rows (Some g) = CallsSuit rows g.calls

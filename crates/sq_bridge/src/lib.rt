@@ -5,3 +5,4 @@
 
 pub mod join_laws;
 pub mod stage_laws;
+pub mod group_laws;
