@@ -3,3 +3,7 @@ pub mod Joining
 pub mod LeftJoining
 pub mod Staging
 pub mod Grouping
+pub mod Combining
+pub mod Sorting
+pub mod NodeEquations
+pub mod Meaningful

@@ -12,7 +12,7 @@ use Rattle.sq_typed.specs.Laws.{AreOfWidth, HasItsWidth, last_of, width_of_all}
 use Rattle.sq_typed.proofs.Tests.{all_filter, every, filter_same, list_all-append}
 use Rattle.sq_typed.proofs.WhereLemmas.{joined_width, members_hold, stage_keeps, where_keeps_the_last}
 use Rattle.sq_bridge.specs.Joins.{joined_on, left_joined}
-use Rattle.sq_bridge.specs.Meaning.{AreWorth, IsWorth, IsWorthSource}
+use Rattle.sq_bridge.specs.Meaning.{AreWorth, Holds, IsWorth, IsWorthSource}
 use Rattle.sq_bridge.specs.Nodes.{Node, NodeSource, first_node, joined_node, next_node, node_widths, nodes_from, on_members, stage_rows}
 use Rattle.sq_bridge.specs.Rows.{Rows, kept_on_all, listed, paired}
 use Rattle.sq_bridge.proofs.Joining.{first_kept, kept_all, pairs_on}
@@ -76,11 +76,6 @@ stage_width w conds join a rows hw ha =
     (all_filter (λ r. length r ≡ w + a.width) (all_hold conds) (joined_by [] join a rows) (joined_width w join a rows hw ha))
 
 -- ---- all sources
-
--- the rows so far, in a node
-pub record Holds (n : Node) (rows : List Row) : Type 0 where
-  pub are : n.rows ≡ listed rows
-  pub wide : AreOfWidth n.width rows
 
 pub next_holds : (conds : List Cond) (before : Node) (rows : List Row) (n : NodeSource) (s : Source) → Holds before rows → IsWorthSource n s → HasItsWidth s.answer → Holds (next_node conds before n) (stage conds s.join s.answer rows).1
 next_holds conds before rows n s h is ha = record {

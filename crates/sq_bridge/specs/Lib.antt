@@ -5,3 +5,4 @@ pub mod Groups
 pub mod Queries
 pub mod Views
 pub mod Meaning
+pub mod Sorts

@@ -6,3 +6,6 @@
 pub mod join_laws;
 pub mod stage_laws;
 pub mod group_laws;
+pub mod set_laws;
+pub mod sort_laws;
+pub mod query_laws;
