@@ -48,7 +48,7 @@ use Rattle.sq_bridge.proofs.Lists.{column_behind, filter_of_map, flat_map_agree,
 
 -- ---- sums
 
-added : (a : ℤ) (xs : List Value) → AllByRecursion (IsOfSort Numeric) xs → fold (of_both ◌+ℤ◌) (Int a) (present xs) ≡ Int (a +ℤ sum_over integers number_or_zero xs)
+pub added : (a : ℤ) (xs : List Value) → AllByRecursion (IsOfSort Numeric) xs → fold (of_both ◌+ℤ◌) (Int a) (present xs) ≡ Int (a +ℤ sum_over integers number_or_zero xs)
 added a [] h = ap Int (omega (arith, ints))
 added a (Null ∷ xs) h = added a xs h.1 ∙ ap Int (omega (arith, ints))
 added a (Int x ∷ xs) h = added (a +ℤ x) xs h.1 ∙ ap Int (omega (arith, ints))
@@ -59,10 +59,10 @@ sum_at [] n e = refl
 sum_at (x ∷ xs) n e = sym e
 
 -- the values in a column
-abbrev column_values : ℕ → List Row → List Value
+abbrev pub column_values : ℕ → List Row → List Value
 column_values n rows = map (λ row. column_of row n) rows
 
-sum_of_column : (n : ℕ) (rows : List Row) → sum_over integers (number_at n) rows ≡ sum_over integers number_or_zero (column_values n rows)
+pub sum_of_column : (n : ℕ) (rows : List Row) → sum_over integers (number_at n) rows ≡ sum_over integers number_or_zero (column_values n rows)
 sum_of_column n [] = refl
 sum_of_column n (row ∷ rows) = ap (λ s. number_at n row +ℤ s) (sum_of_column n rows)
 
@@ -85,10 +85,10 @@ count_is : (n : ℕ) (rows : List Row) → length (filter (has_value n) rows) �
 count_is n rows = sym (length_mapped (λ row. column_of row n) (filter (has_value n) rows)) ∙ ap length (sym (values_are n rows))
 
 module _ (n : ℕ) (e : Expr) (g : Row → Row) (is : (row : Row) → column_of (g row) n ≡ num e row) (rows : List Row) where
-  column_is : column_values n (map g rows) ≡ map (num e) rows
+  pub column_is : column_values n (map g rows) ≡ map (num e) rows
   column_is = map_of_map (λ row. column_of row n) g rows ∙ map_same (λ row. column_of (g row) n) (num e) rows is
 
-  numbers_mapped : (rows : List Row) → AllByRecursion (λ row. IsOfSort Numeric (num e row)) rows → AllByRecursion (IsOfSort Numeric) (map (num e) rows)
+  pub numbers_mapped : (rows : List Row) → AllByRecursion (λ row. IsOfSort Numeric (num e row)) rows → AllByRecursion (IsOfSort Numeric) (map (num e) rows)
   numbers_mapped [] h = tt
   numbers_mapped (row ∷ rows) h = (h.0, numbers_mapped rows h.1)
 
@@ -108,13 +108,13 @@ count_all_is Max h n g rows = absurd (cc h)
 
 -- ---- all calls
 
-abbrev values_at : List Expr → Row → Row
+abbrev pub values_at : List Expr → Row → Row
 values_at es row = map (λ e. num e row) es
 
-length_more : (row : Row) (x : Value) (n : ℕ) → length row ≡ n → length (row ++ x ∷ []) ≡ suc n
+pub length_more : (row : Row) (x : Value) (n : ℕ) → length row ≡ n → length (row ++ x ∷ []) ≡ suc n
 length_more row x n e = length-append row (x ∷ []) ∙ omega (arith, e)
 
-next_column : (front : Row) (x : Value) (rest : Row) (n : ℕ) → length front ≡ n → column_of (front ++ x ∷ rest) n ≡ x
+pub next_column : (front : Row) (x : Value) (rest : Row) (n : ℕ) → length front ≡ n → column_of (front ++ x ∷ rest) n ≡ x
 next_column front x rest n e =
     let none : n - length front ≡ 0 = omega (arith, e) in
     column_behind front (x ∷ rest) n (omega (arith, e)) ∙ ap (column_of (x ∷ rest)) none
@@ -140,7 +140,7 @@ module _ (g : Row → Row) (rows : List Row) where
 
 -- ---- groups
 
-projected_is : (g : Grouping) (row : Row) → items_of (group_items g) row ≡ columns_of g.columns row ++ values_at (argument_items g.calls) row
+pub projected_is : (g : Grouping) (row : Row) → items_of (group_items g) row ≡ columns_of g.columns row ++ values_at (argument_items g.calls) row
 projected_is g row =
     map-append (λ e. num e row) (map expr.Column g.columns) (argument_items g.calls)
     ∙ ap (λ front. front ++ values_at (argument_items g.calls) row)
@@ -164,11 +164,11 @@ suits_filtered : (p : Row → Bool) (rows : List Row) (f : Func) (arg : Option E
 suits_filtered p rows f None h = h
 suits_filtered p rows f (Some e) h = λ s. all_filter (λ row. IsOfSort Numeric (num e row)) p rows (h s)
 
-calls_filtered : (p : Row → Bool) (rows : List Row) (calls : List BlockCall) → CallsSuit rows calls → CallsSuit (filter p rows) calls
+pub calls_filtered : (p : Row → Bool) (rows : List Row) (calls : List BlockCall) → CallsSuit rows calls → CallsSuit (filter p rows) calls
 calls_filtered p rows calls h = all_weaker (λ c. CallSuits rows c.func c.arg) (λ c. CallSuits (filter p rows) c.func c.arg) calls (λ c. suits_filtered p rows c.func c.arg) h
 
 module _ (key : Row → Row) where
-  abbrev of_key : Row → List Row → List Row
+  abbrev pub of_key : Row → List Row → List Row
   of_key k rows = filter (λ row. is_eq (row_cmp k (key row))) rows
 
   abbrev HasRows : List Row → Row → Type 0
@@ -190,22 +190,22 @@ flat_of_singles f [] = refl
 flat_of_singles f (x ∷ xs) = ap (λ ys. f x ∷ ys) (flat_of_singles f xs)
 
 module _ (g : Grouping) (rows : List Row) (h : CallsSuit rows g.calls) where
-  abbrev made : Row → Row
+  abbrev pub made : Row → Row
   made row = items_of (group_items g) row
 
   abbrev key_of_row : Row → Row
   key_of_row row = columns_of g.columns row
 
-  abbrev found : Row → List Row
+  abbrev pub found : Row → List Row
   found k = of_key key_of_row k rows
 
-  found_is : (k : Row) → members_at row_cmp (group_of (group_spec g)) k (map made rows) ≡ map made (found k)
+  pub found_is : (k : Row) → members_at row_cmp (group_of (group_spec g)) k (map made rows) ≡ map made (found k)
   found_is k =
       filter_of_map (λ row. is_eq (row_cmp k (group_of (group_spec g) row))) made rows
       ∙ ap (map made) (filter_same (λ row. is_eq (row_cmp k (group_of (group_spec g) (made row)))) (λ row. is_eq (row_cmp k (key_of_row row))) rows
       (every (λ row. is_eq (row_cmp k (group_of (group_spec g) (made row))) ≡ is_eq (row_cmp k (key_of_row row))) rows (λ row. ap (λ c. is_eq (row_cmp k c)) (key_is g row))))
 
-  keys_are : map (group_of (group_spec g)) (map made rows) ≡ map key_of_row rows
+  pub keys_are : map (group_of (group_spec g)) (map made rows) ≡ map key_of_row rows
   keys_are = map_of_map (group_of (group_spec g)) made rows ∙ map_same (λ row. group_of (group_spec g) (made row)) key_of_row rows (key_is g)
 
   one_group : (k : Row) → HasRows key_of_row rows k → group_of_list (group_spec g).calls k (members_at row_cmp (group_of (group_spec g)) k (map made rows)) ≡ group_row g.calls (k, found k) ∷ []

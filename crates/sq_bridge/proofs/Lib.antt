@@ -7,3 +7,4 @@ pub mod Combining
 pub mod Sorting
 pub mod NodeEquations
 pub mod Meaningful
+pub mod Ranging

@@ -2,7 +2,8 @@
 --     group_items g      what is projected.       group_spec g      how it is grouped
 --     item_node grouping n      the rows on which the items are computed.      block_node      the rows of a block
 use Rattle.std.specs.Prelude.{ℕ, suc, ◌+◌, ◌||◌, Bool, true, false, List, [], ◌∷◌, ◌++◌, length, map, Option, Some, None, is_some, option_to_list}
-use Rattle.std.specs.List.{flat_map}
+use Rattle.std.specs.List.{filter, flat_map}
+use Rattle.sq_value.specs.declared.value.Value.{Value}
 use Rattle.sq_value.specs.Order.{row_cmp}
 use Rattle.sq_algebra.specs.Keyed.{numbers_below}
 use Rattle.sq_algebra.specs.Operators.{distinct}
@@ -15,7 +16,8 @@ use Rattle.sq_ops.specs.Aggregates.{aggregated, first_sum_outside}
 use Rattle.sq_ops.specs.Wholes.{has_no_values}
 use Rattle.sq_typed.specs.declared.query.BlockCall.{BlockCall}
 use Rattle.sq_typed.specs.declared.query.Grouping.{Grouping}
-use Rattle.sq_typed.specs.From.{members_of}
+use Rattle.sq_typed.specs.Blocks.{call_value, is_sum}
+use Rattle.sq_typed.specs.From.{Row, members_of}
 use Rattle.sq_bridge.specs.Nodes.{Node, NodeSource, has_item_outside, joined_node}
 use Rattle.sq_bridge.specs.Rows.{Rows, kept_on_all, projected}
 
@@ -54,6 +56,10 @@ group_rows g z = aggregated (group_spec g) (projected (group_items g) z)
 
 abbrev pub has_group_fault : Grouping → Rows → Bool
 has_group_fault g z = has_item_outside (group_items g) z || is_some (first_sum_outside (group_spec g) (projected (group_items g) z))
+
+-- the SUMs of a group
+abbrev pub tested_sums : List BlockCall → Row × List Row → List Value
+tested_sums calls group = map (λ c. call_value c.func c.arg group.1) (filter (λ c. is_sum c.func) calls)
 
 -- ---- the block
 

@@ -9,3 +9,4 @@ pub mod group_laws;
 pub mod set_laws;
 pub mod sort_laws;
 pub mod query_laws;
+pub mod range_laws;
