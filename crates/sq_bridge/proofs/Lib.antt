@@ -8,3 +8,4 @@ pub mod Sorting
 pub mod NodeEquations
 pub mod Meaningful
 pub mod Ranging
+pub mod Blaming

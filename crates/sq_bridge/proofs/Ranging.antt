@@ -155,7 +155,7 @@ crowded_is rows = ap (int_lt (pos (2 ^ 61))) (total-of_list rows)
 
 -- ---- items
 
-outside_number : (x : Value) → list_any (λ n. not (is_bigint n)) (number_in x) ≡ is_outside x
+pub outside_number : (x : Value) → list_any (λ n. not (is_bigint n)) (number_in x) ≡ is_outside x
 outside_number Null = refl
 outside_number (Int n) = or_false (not (is_bigint n))
 outside_number (Text t) = refl

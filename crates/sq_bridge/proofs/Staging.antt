@@ -122,3 +122,7 @@ joined_holds conds (n ∷ ns) s ss is comma hs =
 pub joined_rows_kept : (conds : List Cond) (ns : List NodeSource) (s : Source) (ss : List Source) → AreWorth ns (s ∷ ss) → s.join ≡ Comma → AllByRecursion (λ s. HasItsWidth s.answer) (s ∷ ss) →
     AllByRecursion (λ c. width_of (cond_columns c) ≤ width_of_all (s ∷ ss)) conds → (joined_node conds ns).rows ≡ listed (kept conds (s ∷ ss))
 joined_rows_kept conds ns s ss is comma hs narrow = (joined_holds conds ns s ss is comma hs).are ∙ ap listed (sym (where_keeps_the_last conds s ss hs narrow))
+
+-- the pairs of a left join
+pub on_pairs_are : (w : ℕ) (rows : List Row) (n : Node) (a : Answer) (on : Cond) → AreOfWidth w rows → HasItsWidth a → IsWorth n a → paired (joined_on w n.width (members on)) (listed rows) n.rows ≡ listed (inner (on ∷ []) a.rows rows)
+on_pairs_are w rows n a on hw ha worth = pairs_are w rows n a [] hw ha worth (members on) ∙ ap listed (inner_same (members on) (on ∷ []) (members_alone on) a.rows rows)
