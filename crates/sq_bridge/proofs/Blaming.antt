@@ -187,7 +187,7 @@ sources_blamed conds (n ∷ ns) e =
 
 -- ---- groups
 
-any_same_of : {A : Type 0} (p q : A → Bool) (xs : List A) → AllByRecursion (λ x. p x ≡ q x) xs → list_any p xs ≡ list_any q xs
+pub any_same_of : {A : Type 0} (p q : A → Bool) (xs : List A) → AllByRecursion (λ x. p x ≡ q x) xs → list_any p xs ≡ list_any q xs
 any_same_of p q [] h = refl
 any_same_of p q (x ∷ xs) h = ap₂ (λ a b. a || b) h.0 (any_same_of p q xs h.1)
 

@@ -9,3 +9,5 @@ pub mod NodeEquations
 pub mod Meaningful
 pub mod Ranging
 pub mod Blaming
+pub mod QueryBlame
+pub mod Viewing

@@ -73,7 +73,7 @@ steps_begin q rest h = all_placed (λ s. Begins s.query) rest (λ n s e c at. h 
 pub members_begin : (qs : List Query) → Begins (query.Intersect qs) → AllByRecursion Begins qs
 members_begin qs h = all_placed Begins qs (λ n q e c at. h c (BlockOf.Member qs n q c e at))
 
-comma_is : (join : FromJoin) → is_comma join ≡ true → join ≡ Comma
+pub comma_is : (join : FromJoin) → is_comma join ≡ true → join ≡ Comma
 comma_is Comma e = refl
 comma_is (Inner on) e = absurd (cc e)
 comma_is (Left on) e = absurd (cc e)
@@ -178,10 +178,10 @@ module _ (relations : List Contents) (nodes : List Node) (kss : List (List Kind)
   abbrev pub OriginMeans : Origin → Type 0
   OriginMeans o = (kinded_origin kss o).fits ≡ true → OriginBegins o → IsWorth (origin_node nodes o) (origin_answer relations o)
 
-  worth_at : (n m : Node) (a b : Answer) → n ≡ m → a ≡ b → IsWorth m b → IsWorth n a
+  pub worth_at : (n m : Node) (a b : Answer) → n ≡ m → a ≡ b → IsWorth m b → IsWorth n a
   worth_at n m a b en ea h = subst (λ n. IsWorth n a) (sym en) (subst (IsWorth m) (sym ea) h)
 
-  source_means : (s : FromItem) → IsWorth (origin_node nodes s.source) (origin_answer relations s.source) → IsWorthSource (source_node nodes s) (source_of_item relations s)
+  pub source_means : (s : FromItem) → IsWorth (origin_node nodes s.source) (origin_answer relations s.source) → IsWorthSource (source_node nodes s) (source_of_item relations s)
   source_means s h = record {
     join = ap (λ n. n.join) (source_node-is nodes s) ∙ sym (ap (λ a. a.join) (source-is relations s));
     worth = worth_at (source_node nodes s).node (origin_node nodes s.source) (source_of_item relations s).answer (origin_answer relations s.source) (ap (λ n. n.node) (source_node-is nodes s)) (ap (λ a. a.answer) (source-is relations s)) h;
@@ -223,19 +223,19 @@ module _ (relations : List Contents) (nodes : List Node) (kss : List (List Kind)
       (sources_mean [] (s ∷ xs) h b parts.0) (ap (λ a. a.join) (source-is relations s) ∙ comma_is s.join first) is_distinct items
 
   -- what is known of a further member of a set operation
-  record Known (ks : List Kind) (q : Query) : Type 0 where
-    means : QueryMeans q
-    begins : Begins q
-    fits : (kinded kss q).fits ≡ true
-    matched : are_matched ks (kinded kss q).kinds ≡ true
+  pub record Known (ks : List Kind) (q : Query) : Type 0 where
+    pub means : QueryMeans q
+    pub begins : Begins q
+    pub fits : (kinded kss q).fits ≡ true
+    pub matched : are_matched ks (kinded kss q).kinds ≡ true
 
-  member_known : (w : ℕ) (ks : List Kind) (q : Query) → w ≡ length ks → Known ks q → IsMemberOf w (query_node nodes q) (answer relations q)
+  pub member_known : (w : ℕ) (ks : List Kind) (q : Query) → w ≡ length ks → Known ks q → IsMemberOf w (query_node nodes q) (answer relations q)
   member_known w ks q e k = worth_member w (query_node nodes q) (answer relations q) ks (kinded kss q).kinds e (k.means k.fits k.begins) (query_sorts relations kss holds q k.fits) k.matched
 
-  step_known : (w : ℕ) (ks : List Kind) (s : SetStep) → w ≡ length ks → Known ks s.query → IsStepOf w (member_node nodes s) (member_answer relations s)
+  pub step_known : (w : ℕ) (ks : List Kind) (s : SetStep) → w ≡ length ks → Known ks s.query → IsStepOf w (member_node nodes s) (member_answer relations s)
   step_known w ks s e k = subst (λ m. IsStepOf w m (member_answer relations s)) (sym (member_node-is nodes s)) (subst (IsStepOf w (s.op, query_node nodes s.query)) (sym (member-is relations s)) (record { op = refl; member = member_known w ks s.query e k }))
 
-  known_all : {A : Type 0} (of : A → Query) (ks : List Kind) (xs : List A) → AllByRecursion (λ x. QueryMeans (of x)) xs → AllByRecursion (λ x. Begins (of x)) xs →
+  pub known_all : {A : Type 0} (of : A → Query) (ks : List Kind) (xs : List A) → AllByRecursion (λ x. QueryMeans (of x)) xs → AllByRecursion (λ x. Begins (of x)) xs →
       list_all (λ m. m.fits && are_matched ks m.kinds) (map (λ x. kinded kss (of x)) xs) ≡ true → AllByRecursion (λ x. Known ks (of x)) xs
   known_all of ks [] h b e = tt
   known_all of ks (x ∷ xs) h b e =
@@ -246,10 +246,10 @@ module _ (relations : List Contents) (nodes : List Node) (kss : List (List Kind)
       )
 
   -- the first member of a set operation
-  first_holds : (q : Query) → QueryMeans q → Begins q → (kinded kss q).fits ≡ true → Holds (query_node nodes q) (answer relations q).rows
+  pub first_holds : (q : Query) → QueryMeans q → Begins q → (kinded kss q).fits ≡ true → Holds (query_node nodes q) (answer relations q).rows
   first_holds q h b e = worth_holds (query_node nodes q) (answer relations q) (kinded kss q).kinds (h e b) (query_sorts relations kss holds q e)
 
-  first_width : (q : Query) → QueryMeans q → Begins q → (kinded kss q).fits ≡ true → (query_node nodes q).width ≡ length (kinded kss q).kinds
+  pub first_width : (q : Query) → QueryMeans q → Begins q → (kinded kss q).fits ≡ true → (query_node nodes q).width ≡ length (kinded kss q).kinds
   first_width q h b e = (h e b).width ∙ (query_sorts relations kss holds q e).0
 
   chain_means : (q : Query) (rest : List SetStep) → QueryMeans q → AllByRecursion (λ s. QueryMeans s.query) rest → Begins q → AllByRecursion (λ s. Begins s.query) rest → (operation_kinded (kinded kss q ∷ map (λ s. kinded kss s.query) rest)).fits ≡ true →
@@ -278,7 +278,7 @@ module _ (relations : List Contents) (nodes : List Node) (kss : List (List Kind)
             (all_weaker (Known k.kinds) (λ q'. IsMemberOf (query_node nodes q).width (query_node nodes q') (answer relations q')) qs (λ q'. member_known (query_node nodes q).width k.kinds q' (first_width q h.0 b.0 own)) others))).are;
       }
 
-  means_cases : QueryCases OriginMeans QueryMeans
+  pub means_cases : QueryCases OriginMeans QueryMeans
   means_cases = record {
     block = λ b gs fits begin. worth_at (query_node nodes (query.Block b)) (block_node (out-Block b).distinct (map (source_node nodes) (out-Block b).sources) (out-Block b).filter (out-Block b).grouping (out-Block b).items)
         (answer relations (query.Block b)) (block_answer (out-Block b).distinct (map (source_of_item relations) (out-Block b).sources) (out-Block b).filter (out-Block b).grouping (out-Block b).items) (node-Block nodes b) (answer-Block relations b)

@@ -10,3 +10,4 @@ pub mod set_laws;
 pub mod sort_laws;
 pub mod query_laws;
 pub mod range_laws;
+pub mod view_laws;

@@ -1,0 +1,18 @@
+//! The views of a program as operators over its tables.
+ghost use Rattle.std.specs.Prelude.{◌≡◌, List, [], map};
+ghost use Rattle.std.specs.List.{AllByRecursion};
+ghost use Rattle.sq_typed.specs.Fit.{Pairwise, ProgramFits, TablesAreOfKinds};
+ghost use Rattle.sq_typed.specs.Tables.{Tables};
+ghost use Rattle.sq_typed.specs.Views.{Meant, verdict, views};
+ghost use Rattle.sq_bridge.specs.Meaning.{Begins, IsWorth};
+ghost use Rattle.sq_bridge.specs.Rows.{listed};
+ghost use Rattle.sq_bridge.specs.Views.{node_verdict, view_nodes};
+
+/// Over tables that hold rows of their kinds, the node of each view of a program that fits is the Z-set of the view's list, whether or
+/// not something is out of range; and the first node with a fault is the first view that is out of range.
+pub fn views_are_operators()
+    ensures views { (p : Meant) (tables : Tables) → ProgramFits [] p.queries p.catalog → AllByRecursion Begins p.queries → TablesAreOfKinds tables p.catalog
+        → Pairwise IsWorth (view_nodes p (map listed tables)) (views p tables) }
+    ensures verdict { (p : Meant) (tables : Tables) → ProgramFits [] p.queries p.catalog → AllByRecursion Begins p.queries → TablesAreOfKinds tables p.catalog
+        → node_verdict p (map listed tables) ≡ verdict p tables }
+{}
