@@ -1,7 +1,8 @@
 -- The view nodes of a program are worth what its views give, and the first with a fault is the first view that cannot be shown.
-use Rattle.std.proofs.Common.{◌≡◌, ℕ, zero, suc, List, [], ◌∷◌, ◌++◌, map, fold, drop, length, Bool, true, false, cond, refl, sym, ap, ap₂, subst, ◌∙◌}
+use Rattle.std.proofs.Common.{◌≡◌, ℕ, suc, ◌+◌, List, [], ◌∷◌, ◌++◌, map, fold, drop, length, Bool, true, false, cond, refl, sym, ap, ap₂, subst, ◌∙◌}
 use Rattle.std.specs.Prelude.{nat_lt, Option, Some, None}
 use Rattle.std.specs.List.{AllByRecursion, position, position_or_len}
+use Rattle.std.proofs.lemmas.List.Recursion.{is_position_or_len}
 use Rattle.sq_value.specs.Order.{row_cmp}
 use Rattle.sq_value.specs.OrderLaws.{row_cmp-total, row_cmp-antisymmetric}
 use Rattle.sq_algebra.proofs.OperatorLemmas.{of_list-nil}
@@ -54,16 +55,27 @@ alike_more [] (b ∷ given) n a p h = absurd p
 alike_more (m ∷ nodes) [] n a p h = absurd p
 alike_more (m ∷ nodes) (b ∷ given) n a p h = (p.0, λ e. alike_more nodes given n a (p.1 e) (λ all. h (e, all)))
 
-first_place : (nodes : List Node) (given : List Answer) → Alike nodes given → position_or_len (λ n. n.fault) nodes ≡ position_or_len has_range_fault given
-first_place [] [] p = refl
-first_place [] (a ∷ given) p = absurd p
-first_place (n ∷ nodes) [] p = absurd p
-first_place (n ∷ nodes) (a ∷ given) p =
-    ap (λ b. cond b 0 (suc (position_or_len (λ n. n.fault) nodes))) p.0
-    ∙ elim (has_range_fault a) as (λ b. has_range_fault a ≡ b → cond b 0 (suc (position_or_len (λ n. n.fault) nodes)) ≡ cond b 0 (suc (position_or_len has_range_fault given))) [
+-- the place of the first member that passes, or the length
+abbrev first : {A : Type 0} → (A → Bool) → List A → ℕ
+first p [] = 0
+first p (x ∷ xs) = cond (p x) 0 (1 + first p xs)
+
+first_alike : (nodes : List Node) (given : List Answer) → Alike nodes given → first (λ n. n.fault) nodes ≡ first has_range_fault given
+first_alike [] [] p = refl
+first_alike [] (a ∷ given) p = absurd p
+first_alike (n ∷ nodes) [] p = absurd p
+first_alike (n ∷ nodes) (a ∷ given) p =
+    ap (λ b. cond b 0 (1 + first (λ n. n.fault) nodes)) p.0
+    ∙ elim (has_range_fault a) as (λ b. has_range_fault a ≡ b → cond b 0 (1 + first (λ n. n.fault) nodes) ≡ cond b 0 (1 + first has_range_fault given)) [
       | true ↦ λ e. refl
-      | false ↦ λ e. ap suc (first_place nodes given (p.1 e))
+      | false ↦ λ e. ap (λ k. 1 + k) (first_alike nodes given (p.1 e))
     ] refl
+
+first_place : (nodes : List Node) (given : List Answer) → Alike nodes given → position_or_len (λ n. n.fault) nodes ≡ position_or_len has_range_fault given
+first_place nodes given p =
+    sym (is_position_or_len (first (λ n. n.fault)) (λ n. n.fault) refl (λ n ns. refl) nodes)
+    ∙ first_alike nodes given p
+    ∙ is_position_or_len (first has_range_fault) has_range_fault refl (λ a rest. refl) given
 
 as_many : (nodes : List Node) (given : List Answer) → Pairwise IsWorth nodes given → length nodes ≡ length given
 as_many [] [] p = refl
