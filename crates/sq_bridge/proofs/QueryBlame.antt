@@ -116,7 +116,7 @@ module _ (relations : List Contents) (nodes : List Node) (kss : List (List Kind)
       let k : Kinded = kinded kss q in
       let own = and_left k.fits (list_all (λ m. m.fits && are_matched k.kinds m.kinds) (map (λ s. kinded kss s.query) rest)) fits in
       let others = known_all relations nodes kss sorts worth (λ s. s.query) k.kinds rest (every (λ s. QueryMeans relations nodes kss sorts worth s.query) rest (λ s. means s.query)) bs
-          (and_right k.fits (list_all (λ m. m.fits && are_matched k.kinds m.kinds) (map (λ s. kinded kss s.query) rest)) fits) in
+      (and_right k.fits (list_all (λ m. m.fits && are_matched k.kinds m.kinds) (map (λ s. kinded kss s.query) rest)) fits) in
       chain_fault (query_node nodes q) (answer relations q).rows (map (member_node nodes) rest) (map (member_answer relations) rest) (first_holds relations nodes kss sorts worth q (means q) b own)
       (pairwise_mapped (IsStepOf (query_node nodes q).width) (member_node nodes) (member_answer relations) rest
       (all_weaker (λ s. Known relations nodes kss sorts worth k.kinds s.query) (λ s. IsStepOf (query_node nodes q).width (member_node nodes s) (member_answer relations s)) rest
@@ -137,7 +137,7 @@ module _ (relations : List Contents) (nodes : List Node) (kss : List (List Kind)
       let k : Kinded = kinded kss q in
       let own = and_left k.fits (list_all (λ m. m.fits && are_matched k.kinds m.kinds) (map (kinded kss) qs)) fits in
       let others = known_all relations nodes kss sorts worth (λ q. q) k.kinds qs (every (QueryMeans relations nodes kss sorts worth) qs means) b.1
-          (and_right k.fits (list_all (λ m. m.fits && are_matched k.kinds m.kinds) (map (kinded kss) qs)) fits) in
+      (and_right k.fits (list_all (λ m. m.fits && are_matched k.kinds m.kinds) (map (kinded kss) qs)) fits) in
       common_fault (query_node nodes q) (answer relations q).rows (map (query_node nodes) qs) (map (answer relations) qs) (first_holds relations nodes kss sorts worth q (means q) b.0 own)
       (pairwise_mapped (IsMemberOf (query_node nodes q).width) (query_node nodes) (answer relations) qs
       (all_weaker (Known relations nodes kss sorts worth k.kinds) (λ r. IsMemberOf (query_node nodes q).width (query_node nodes r) (answer relations r)) qs

@@ -54,8 +54,12 @@ group_spec g = record {
 abbrev pub group_rows : Grouping → Rows → Rows
 group_rows g z = aggregated (group_spec g) (projected (group_items g) z)
 
+-- whether a SUM of some group is outside BIGINT
+abbrev pub has_sum_outside : Grouping → Rows → Bool
+has_sum_outside g z = is_some (first_sum_outside (group_spec g) (projected (group_items g) z))
+
 abbrev pub has_group_fault : Grouping → Rows → Bool
-has_group_fault g z = has_item_outside (group_items g) z || is_some (first_sum_outside (group_spec g) (projected (group_items g) z))
+has_group_fault g z = has_item_outside (group_items g) z || has_sum_outside g z
 
 -- the SUMs of a group
 abbrev pub tested_sums : List BlockCall → Row × List Row → List Value

@@ -1,10 +1,12 @@
 -- What a node has to be to stand for what a query gives.
 --     IsWorth n a          the rows of the node are the Z-set of the answer's rows.      Begins q      each block begins with a comma
-use Rattle.std.specs.Prelude.{◌≡◌, ℕ, Bool, true, false, List, [], ◌∷◌, Option, Some, None, ⊤}
+use Rattle.std.specs.Prelude.{◌≡◌, ℕ, Bool, true, false, List, [], ◌∷◌, fold, Option, Some, None, ⊤}
 use Rattle.std.specs.List.{AllByRecursion}
 use Rattle.sq_ast.specs.declared.query.SetOp.{SetOp}
+use Rattle.sq_expr.specs.declared.cond.Cond.{Cond}
 use Rattle.sq_expr.specs.declared.expr.Expr.{Expr}
 use Rattle.sq_expr.specs.declared.expr.Func.{Func}
+use Rattle.sq_expr.specs.declared.expr.Kind.{Kind}
 use Rattle.sq_expr.specs.Meaning.{num}
 use Rattle.sq_expr.specs.Typing.{IsOfSort}
 use Rattle.sq_expr.specs.declared.typing.Sort.TheVariants.{Numeric}
@@ -16,14 +18,15 @@ use Rattle.sq_typed.specs.declared.query.FromItem.{FromItem}
 use Rattle.sq_typed.specs.declared.query.FromJoin.{FromJoin}
 use Rattle.sq_typed.specs.declared.query.FromJoin.TheVariants.{Comma, Inner, Left}
 use Rattle.sq_typed.specs.declared.query.Query.{Query}
-use Rattle.sq_typed.specs.Fit.{Pairwise, is_count_all}
-use Rattle.sq_typed.specs.From.{Answer, Row, Source}
-use Rattle.sq_typed.specs.Laws.{AreOfWidth}
-use Rattle.sq_typed.specs.Queries.{Contents, answer}
+use Rattle.sq_typed.specs.Fit.{Fits, HoldsKinds, Pairwise, is_count_all}
+use Rattle.sq_typed.specs.From.{Answer, Row, Source, kept, stage}
+use Rattle.sq_typed.specs.Laws.{AreOfWidth, NamesThese}
+use Rattle.sq_typed.specs.Queries.{Contents, answer, has_range_fault, intersect_rows, set_rows}
 use Rattle.sq_typed.specs.Within.{BlockOf}
-use Rattle.sq_bridge.specs.Nodes.{Node, NodeSource}
+use Rattle.sq_bridge.specs.Nodes.{Node, NodeSource, joined_node, stage_rows}
 use Rattle.sq_bridge.specs.Queries.{query_node}
 use Rattle.sq_bridge.specs.Rows.{listed}
+use Rattle.sq_bridge.specs.Sorts.{HoldsSorts}
 
 pub record IsWorth (n : Node) (a : Answer) : Type 0 where
   pub width : n.width ≡ a.width
@@ -41,6 +44,22 @@ pub record IsWorthSource (n : NodeSource) (s : Source) : Type 0 where
 
 abbrev pub AreWorth : List NodeSource → List Source → Type 0
 AreWorth ns ss = Pairwise IsWorthSource ns ss
+
+-- J_k and F_k of a source, as operators and over lists
+module _ (w : ℕ) (rows : List Row) (n : Node) (a : Answer) (conds : List Cond) (join : FromJoin) where
+  abbrev pub MeansJoined : Type 0
+  MeansJoined = (stage_rows w (listed rows) n conds join).0 ≡ listed (stage conds join a rows).0
+
+  abbrev pub MeansKept : Type 0
+  MeansKept = (stage_rows w (listed rows) n conds join).1 ≡ listed (stage conds join a rows).1
+
+-- the conditions name no columns but those of the sources
+abbrev pub AreNamed : List Cond → List Source → Type 0
+AreNamed conds sources = AllByRecursion (NamesThese sources) conds
+
+-- the rows that WHERE keeps
+abbrev pub MeansWhere : List Cond → List NodeSource → List Source → Type 0
+MeansWhere conds nodes sources = (joined_node conds nodes).rows ≡ listed (kept conds sources)
 
 -- ---- the first source of a block
 
@@ -96,8 +115,29 @@ AreMembersOf w ms others = Pairwise (IsMemberOf w) ms others
 abbrev pub AreStepsOf : ℕ → List (SetOp × Node) → List (SetOp × Answer) → Type 0
 AreStepsOf w ms steps = Pairwise (IsStepOf w) ms steps
 
+-- the rows of a chain after its last member, and of an INTERSECT
+abbrev pub chain_rows : List Row → List (SetOp × Answer) → List Row
+chain_rows rows steps = fold (λ rows s. set_rows s.0 rows s.1.rows) rows steps
+
+abbrev pub common_rows : List Row → List Answer → List Row
+common_rows rows others = fold (λ rows a. intersect_rows rows a.rows) rows others
+
 -- ---- queries
 
--- the node of a query is worth what the query gives
-abbrev pub MeansQuery : List Node → List Contents → Query → Type 0
-MeansQuery nodes relations q = IsWorth (query_node nodes q) (answer relations q)
+-- relations with rows of their sorts, and nodes for them
+abbrev pub HoldSorts : List Contents → List (List Kind) → Type 0
+HoldSorts relations kinds = Pairwise HoldsSorts relations kinds
+
+abbrev pub HoldKinds : List Contents → List (List Kind) → Type 0
+HoldKinds relations kinds = Pairwise HoldsKinds relations kinds
+
+abbrev pub AreWorthRelations : List Node → List Contents → Type 0
+AreWorthRelations nodes relations = Pairwise IsWorthRelation nodes relations
+
+-- the node of each query that fits is worth what the query gives
+abbrev pub MeanQueries : List Node → List Contents → List (List Kind) → Type 0
+MeanQueries nodes relations kinds = (q : Query) → Fits kinds q → Begins q → IsWorth (query_node nodes q) (answer relations q)
+
+-- it has a fault exactly if the query is out of range
+abbrev pub BlameQueries : List Node → List Contents → List (List Kind) → Type 0
+BlameQueries nodes relations kinds = (q : Query) → Fits kinds q → Begins q → (query_node nodes q).fault ≡ has_range_fault (answer relations q)

@@ -3,11 +3,11 @@
 //! No code here runs. Each function has an empty body, and its contract is a law.
 #![tactic(auto)]
 
-pub mod join_laws;
-pub mod stage_laws;
 pub mod group_laws;
-pub mod set_laws;
-pub mod sort_laws;
+pub mod join_laws;
 pub mod query_laws;
 pub mod range_laws;
+pub mod set_laws;
+pub mod sort_laws;
+pub mod stage_laws;
 pub mod view_laws;

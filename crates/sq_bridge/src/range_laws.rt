@@ -1,16 +1,15 @@
 //! Numbers outside BIGINT and places with too many rows, on lists and as operators say it.
-ghost use Rattle.std.specs.Prelude.{◌≡◌, List, is_some};
+ghost use Rattle.std.specs.Prelude.{◌≡◌, List};
 ghost use Rattle.std.specs.List.{flat_map, list_any};
 ghost use Rattle.sq_expr.specs.declared.expr.Expr.{Expr as Expression};
-ghost use Rattle.sq_ops.specs.Aggregates.{first_sum_outside};
 ghost use Rattle.sq_typed.specs.Blocks.{groups, selected};
 ghost use Rattle.sq_typed.specs.From.{Row};
 ghost use Rattle.sq_typed.specs.Queries.{is_crowded, is_outside};
 ghost use Rattle.sq_typed.specs.declared.query.Grouping.{Grouping as Groups};
-ghost use Rattle.sq_bridge.specs.Groups.{group_items, group_spec, tested_sums};
+ghost use Rattle.sq_bridge.specs.Groups.{has_sum_outside, tested_sums};
 ghost use Rattle.sq_bridge.specs.Meaning.{CallsSuit};
 ghost use Rattle.sq_bridge.specs.Nodes.{has_item_outside, lists_too_many};
-ghost use Rattle.sq_bridge.specs.Rows.{listed, projected};
+ghost use Rattle.sq_bridge.specs.Rows.{listed};
 
 /// A place has as many rows as its list; an item is outside BIGINT on a row of the list exactly if the projection says so; and a SUM is
 /// of some group exactly if the aggregate says so.
@@ -18,6 +17,5 @@ ghost use Rattle.sq_bridge.specs.Rows.{listed, projected};
 pub fn operators_tell_what_is_outside()
     ensures places { (rows : List Row) → lists_too_many (listed rows) ≡ is_crowded rows }
     ensures items { (items : List Expression) (rows : List Row) → has_item_outside items (listed rows) ≡ list_any is_outside (flat_map (λ row. row) (selected items rows)) }
-    ensures sums { (g : Groups) (rows : List Row) → CallsSuit rows g.calls
-        → is_some (first_sum_outside (group_spec g) (projected (group_items g) (listed rows))) ≡ list_any is_outside (flat_map (tested_sums g.calls) (groups g.columns rows)) }
+    ensures sums { (g : Groups) (rows : List Row) → CallsSuit rows g.calls → has_sum_outside g (listed rows) ≡ list_any is_outside (flat_map (tested_sums g.calls) (groups g.columns rows)) }
 {}

@@ -4,7 +4,7 @@ ghost use Rattle.sq_ast.specs.declared.query.SetOp.{SetOp as Operation};
 ghost use Rattle.sq_typed.specs.From.{Answer, Row};
 ghost use Rattle.sq_typed.specs.Laws.{AreOfWidth};
 ghost use Rattle.sq_typed.specs.Queries.{intersect_rows, set_rows};
-ghost use Rattle.sq_bridge.specs.Meaning.{AreStepsOf, AreMembersOf, Holds};
+ghost use Rattle.sq_bridge.specs.Meaning.{AreMembersOf, AreStepsOf, Holds, chain_rows, common_rows};
 ghost use Rattle.sq_bridge.specs.Nodes.{Node};
 ghost use Rattle.sq_bridge.specs.Queries.{both_of, chain_node, set_result, step_node};
 ghost use Rattle.sq_bridge.specs.Rows.{listed};
@@ -19,7 +19,7 @@ pub fn set_operations_are_operators()
 /// Chains, step by step from the left.
 pub fn chains_go_step_by_step()
     ensures chain { (n : Node) (rows : List Row) (ms : List (Operation × Node)) (steps : List (Operation × Answer)) → Holds n rows → AreStepsOf n.width ms steps
-        → Holds (chain_node n ms) (fold (λ rows s. set_rows s.0 rows s.1.rows) rows steps) }
+        → Holds (chain_node n ms) (chain_rows rows steps) }
     ensures intersection { (n : Node) (rows : List Row) (ms : List Node) (others : List Answer) → Holds n rows → AreMembersOf n.width ms others
-        → Holds (fold (step_node both_of) n ms) (fold (λ rows a. intersect_rows rows a.rows) rows others) }
+        → Holds (fold (step_node both_of) n ms) (common_rows rows others) }
 {}

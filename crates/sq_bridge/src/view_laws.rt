@@ -1,5 +1,5 @@
 //! The views of a program as operators over its tables.
-ghost use Rattle.std.specs.Prelude.{◌≡◌, List, [], map};
+ghost use Rattle.std.specs.Prelude.{◌≡◌, [], map};
 ghost use Rattle.std.specs.List.{AllByRecursion};
 ghost use Rattle.sq_typed.specs.Fit.{Pairwise, ProgramFits, TablesAreOfKinds};
 ghost use Rattle.sq_typed.specs.Tables.{Tables};
