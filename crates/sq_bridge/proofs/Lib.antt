@@ -11,3 +11,4 @@ pub mod Ranging
 pub mod Blaming
 pub mod QueryBlame
 pub mod Viewing
+pub mod Beginning

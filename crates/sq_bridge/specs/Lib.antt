@@ -6,3 +6,4 @@ pub mod Queries
 pub mod Views
 pub mod Meaning
 pub mod Sorts
+pub mod Beginnings

@@ -1,6 +1,7 @@
 //! The views of a program as operators over its tables.
 ghost use Rattle.std.specs.Prelude.{◌≡◌, [], map};
 ghost use Rattle.std.specs.List.{AllByRecursion};
+ghost use Rattle.sq_typed.specs.Checked.{IsChecked};
 ghost use Rattle.sq_typed.specs.Fit.{Pairwise, ProgramFits, TablesAreOfKinds};
 ghost use Rattle.sq_typed.specs.Tables.{Tables};
 ghost use Rattle.sq_typed.specs.Views.{Meant, verdict, views};
@@ -15,4 +16,16 @@ pub fn views_are_operators()
         → Pairwise IsWorth (view_nodes p (map listed tables)) (views p tables) }
     ensures verdict { (p : Meant) (tables : Tables) → ProgramFits [] p.queries p.catalog → AllByRecursion Begins p.queries → TablesAreOfKinds tables p.catalog
         → node_verdict p (map listed tables) ≡ verdict p tables }
+{}
+
+/// Each block of a checked program begins with a comma.
+pub fn checked_programs_begin_with_commas()
+    ensures { (p : Meant) → IsChecked p → AllByRecursion Begins p.queries }
+{}
+
+/// So over tables that hold rows of their kinds, the view nodes of a checked program are the Z-sets of its views' lists, and the first
+/// with a fault is its verdict.
+pub fn checked_programs_are_operators()
+    ensures views { (p : Meant) (tables : Tables) → IsChecked p → TablesAreOfKinds tables p.catalog → Pairwise IsWorth (view_nodes p (map listed tables)) (views p tables) }
+    ensures verdict { (p : Meant) (tables : Tables) → IsChecked p → TablesAreOfKinds tables p.catalog → node_verdict p (map listed tables) ≡ verdict p tables }
 {}
