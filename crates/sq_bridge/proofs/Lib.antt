@@ -12,3 +12,4 @@ pub mod Blaming
 pub mod QueryBlame
 pub mod Viewing
 pub mod Beginning
+pub mod Keying

@@ -1,10 +1,10 @@
 //! Joins of lists of rows as operators over Z-sets.
-ghost use Rattle.std.specs.Prelude.{◌≡◌, ℕ, List, [], ◌∷◌};
+ghost use Rattle.std.specs.Prelude.{◌≡◌, ◌↔◌, ℕ, List, [], ◌∷◌, Some};
 ghost use Rattle.sq_algebra.specs.Operators.{meet};
 ghost use Rattle.sq_expr.specs.declared.cond.Cond.{Cond as Condition};
 ghost use Rattle.sq_typed.specs.From.{Row, inner, outer};
 ghost use Rattle.sq_typed.specs.Laws.{AreOfWidth};
-ghost use Rattle.sq_bridge.specs.Joins.{joined_on, left_joined, same_rows};
+ghost use Rattle.sq_bridge.specs.Joins.{IsKeyOf, key_of, joined_on, left_joined, same_rows};
 ghost use Rattle.sq_bridge.specs.Rows.{kept_on_all, listed, paired};
 
 /// The pairs of two lists on which some conditions are True, as a `Pairing` by the keys among the conditions.
@@ -12,6 +12,11 @@ ghost use Rattle.sq_bridge.specs.Rows.{kept_on_all, listed, paired};
 pub fn pairs_are_found_by_keys()
     ensures { (w v : ℕ) (conds : List Condition) (rows others : List Row) → AreOfWidth w rows → AreOfWidth v others
         → paired (joined_on w v conds) (listed rows) (listed others) ≡ listed (inner conds others rows) }
+{}
+
+/// The keys among conditions are those that are an equality of two plain columns, one of the left row and one of the right, in either order.
+pub fn keys_are_equalities()
+    ensures { (w : ℕ) (c : Condition) (key : ℕ × ℕ) → (key_of w c ≡ Some key) ↔ IsKeyOf w key c }
 {}
 
 /// The first source of a block is kept where its conditions are True, and joined with nothing.
