@@ -12,7 +12,7 @@ use sq_zset::ZSet;
 use std::alloc::Global;
 
 impl Trace<i64> {
-    /// The first row of a key whose weight in the trace and in a change of the key's rows add up to more than 0, if there is one, or
+    /// The first row of a key whose weights in the trace and in a change of the key's rows add up to more than 0, if there is one, or
     /// `NoMemory` when memory runs out.
     ///
     /// Takes one step, and at most one for each row of the change. Of the trace and the change, only that row is copied.
@@ -33,7 +33,7 @@ impl Trace<i64> {
         Ok(answer)
     }
 
-    /// The last row of a key whose weight in the trace and in a change of the key's rows add up to more than 0, if there is one, or
+    /// The last row of a key whose weights in the trace and in a change of the key's rows add up to more than 0, if there is one, or
     /// `NoMemory` when memory runs out.
     ///
     /// Takes one step, and at most one for each row of the change. Of the trace and the change, only that row is copied.
