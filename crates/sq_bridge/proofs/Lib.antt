@@ -13,3 +13,4 @@ pub mod QueryBlame
 pub mod Viewing
 pub mod Beginning
 pub mod Keying
+pub mod Suiting

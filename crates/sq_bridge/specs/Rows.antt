@@ -9,6 +9,8 @@ use Rattle.sq_expr.specs.declared.cond.Cond.{Cond}
 use Rattle.sq_expr.specs.declared.cond.Cond.TheVariants as cond
 use Rattle.sq_expr.specs.declared.expr.Expr.{Expr}
 use Rattle.sq_ops.specs.declared.bilinear.Pairing.{Pairing}
+use Rattle.sq_expr.specs.declared.expr.Kind.{Kind}
+use Rattle.sq_ops.specs.JoinLaws.{SuitsPairing}
 use Rattle.sq_ops.specs.Joins.{chosen, joined, key_in}
 use Rattle.sq_ops.specs.Rows.{Row, items_of, kept, padded}
 
@@ -35,3 +37,7 @@ paired op y z = joined (key_in op.left op.nulls_match) (key_in op.right op.nulls
 -- the rows on which all of some conditions are True
 abbrev pub kept_on_all : List Cond → Rows → Rows
 kept_on_all conds z = kept_on (cond.All conds) z
+
+-- a Pairing takes rows of these kinds on the left, and of these on the right
+abbrev pub PairingSuits : Pairing → List Kind → List Kind → Type 0
+PairingSuits op left right = SuitsPairing op.left op.right op.items op.keep left right
