@@ -14,3 +14,5 @@ pub mod Viewing
 pub mod Beginning
 pub mod Keying
 pub mod Suiting
+pub mod GroupSuiting
+pub mod Skipping

@@ -80,7 +80,7 @@ comma_is (Left on) e = absurd (cc e)
 
 -- ---- calls that suit
 
-third : (a b c d : Bool) → (not a && (b && (not c || d))) ≡ true → c ≡ true → d ≡ true
+pub third : (a b c d : Bool) → (not a && (b && (not c || d))) ≡ true → c ≡ true → d ≡ true
 third true b c d e t = absurd (cc e)
 third false false c d e t = absurd (cc e)
 third false true true d e t = e

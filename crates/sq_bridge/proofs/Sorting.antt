@@ -151,9 +151,12 @@ numeric_level kinds (Expr-F.Neg a) e = refl
 numeric_level kinds (Expr-F.Sum ts) e = refl
 numeric_level kinds (Expr-F.Product es) e = refl
 
+pub numeric_kind : (kinds : List Kind) (e : Expr) → is_numeric (sort_of kinds e) ≡ true → sort_of_kind (kind_of kinds e) ≡ Numeric
+numeric_kind kinds e t = numeric_level kinds (out-Expr e) (ap (λ a. is_numeric (sort_of kinds a)) (roll-out-Expr e) ∙ t)
+
 pub numbers_are : (kinds : List Kind) (e : Expr) → is_numeric (sort_of kinds e) ≡ true → (row : Row) → AreOfSorts row kinds → IsOfSort Numeric (num e row)
 numbers_are kinds e t row h =
-    subst (λ s. IsOfSort s (num e row)) (numeric_level kinds (out-Expr e) (ap (λ a. is_numeric (sort_of kinds a)) (roll-out-Expr e) ∙ t)) (value_sort kinds row h e)
+    subst (λ s. IsOfSort s (num e row)) (numeric_kind kinds e t) (value_sort kinds row h e)
 
 -- ---- FROM
 

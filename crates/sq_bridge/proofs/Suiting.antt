@@ -29,7 +29,7 @@ use Rattle.sq_bridge.proofs.Keying.{key_is_equality}
 
 -- ---- numbers below
 
-below : (n m : ℕ) → n ≤ m → list_all (λ c. nat_lt c m) (numbers_below n) ≡ true
+pub below : (n m : ℕ) → n ≤ m → list_all (λ c. nat_lt c m) (numbers_below n) ≡ true
 below zero m h = refl
 below (suc n) m h =
     list_all-append (λ c. nat_lt c m) (numbers_below n) (n ∷ [])
@@ -62,7 +62,7 @@ module _ (left right : List Kind) where
   named : (c : Cond) (a b : ℕ) → c ≡ condition.Compare Eq (expr.Column a) (expr.Column b) → SuitsCond (left ++ right) c → (a < w + v) × (b < w + v)
   named c a b is s =
       let all = subst (AllByRecursion (λ n. n < length (left ++ right))) (ap cond_columns is ∙ columns_of_both a b)
-          ((width_is (cond_columns c) (length (left ++ right))).0 (cond_names_in_range (left ++ right) c s.typed)) in
+      ((width_is (cond_columns c) (length (left ++ right))).0 (cond_names_in_range (left ++ right) c s.typed)) in
       (omega (arith, all.0, length-append left right), omega (arith, all.1.0, length-append left right))
 
   right_key : (c : Cond) (key : ℕ × ℕ) → IsKeyOf w key c → SuitsCond (left ++ right) c → key.1 < v

@@ -10,4 +10,5 @@ pub mod range_laws;
 pub mod set_laws;
 pub mod sort_laws;
 pub mod stage_laws;
+pub mod suit_laws;
 pub mod view_laws;
