@@ -1,6 +1,6 @@
 -- Each block of a checked program begins with a comma.
-use Rattle.std.proofs.Common.{◌≡◌, ℕ, List, [], ◌∷◌, ◌++◌, fold, map, Bool, true, false, ◌&&◌, refl, sym, ap, ap₂, subst, ◌∙◌}
-use Rattle.std.specs.Prelude.{Option, option_map, slice_get, Some, unwrap_or}
+use Rattle.std.proofs.Common.{◌≡◌, ℕ, List, [], ◌∷◌, ◌++◌, fold, map, Bool, true, ◌&&◌, refl, sym, ap, ap₂, subst, ◌∙◌}
+use Rattle.std.specs.Prelude.{option_map, unwrap_or}
 use Rattle.std.specs.List.{AllByRecursion, list_all}
 use Rattle.sq_ast.specs.Spelling as by
 use Rattle.sq_ast.specs.Spelling.{SpellsBody, SpellsJoined, SpellsOperand, SpellsOperands, SpellsQuery, SpellsSource, SpellsSteps, SpellsTerm}
@@ -15,12 +15,11 @@ use Rattle.sq_ast.specs.declared.query.SetOp.{SetOp}
 use Rattle.sq_ast.specs.declared.query.SourceTree.{SourceTree}
 use Rattle.sq_ast.specs.declared.query.StepTree.{StepTree}
 use Rattle.sq_ast.specs.declared.statement.Body.{Body}
-use Rattle.sq_ast.specs.declared.statement.Body.TheVariants as body
 use Rattle.sq_ast.specs.declared.statement.Statement.{Statement}
 use Rattle.sq_catalog.specs.declared.relation.Relation.{Relation}
 use Rattle.sq_expr.proofs.Lists.{all_append, all_at, all_weaker}
 use Rattle.sq_typed.specs.declared.query.Block.{Block, out-Block, roll-Block, out-roll-Block}
-use Rattle.sq_typed.specs.declared.query.FromItem.{FromItem, roll-FromItem, out-roll-FromItem}
+use Rattle.sq_typed.specs.declared.query.FromItem.{FromItem, out-roll-FromItem}
 use Rattle.sq_typed.specs.declared.query.Origin.{Origin, roll-Origin}
 use Rattle.sq_typed.specs.declared.query.Origin.TheVariants as origin
 use Rattle.sq_typed.specs.declared.query.Origin.TheFolds.{fold-Block, fold-SetStep, map-Query, map-Origin, fold-roll-Query, fold-roll-Origin, fold_out-Block, fold_out-FromItem, fold_out-SetStep}

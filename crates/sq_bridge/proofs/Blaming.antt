@@ -1,6 +1,6 @@
 -- A block's node has a fault exactly if its answer is out of range, and so has a chain's.
-use Rattle.std.proofs.Common.{◌≡◌, ℕ, zero, suc, ◌^◌, ◌≤◌, List, [], ◌∷◌, ◌++◌, map, fold, length, Bool, true, false, cond, not, ◌&&◌, ◌||◌, Option, Some, None, refl, sym, subst, ap, ap₂, ◌∙◌, arith}
-use Rattle.std.specs.Prelude.{is_some, nat_lt, option_to_list}
+use Rattle.std.proofs.Common.{◌≡◌, ℕ, zero, suc, ◌^◌, ◌≤◌, List, [], ◌∷◌, ◌++◌, map, fold, length, Bool, true, false, not, ◌||◌, Option, Some, None, refl, sym, subst, ap, ap₂, ◌∙◌, arith}
+use Rattle.std.specs.Prelude.{is_some, option_to_list}
 use Rattle.std.specs.List.{AllByRecursion, flat_map, list_any}
 use Rattle.std.proofs.lemmas.Bool.{lt-ltb, ltb-true}
 use Rattle.std.proofs.lemmas.List.Folds.{list_any-append}
@@ -11,41 +11,38 @@ use Rattle.sq_expr.specs.declared.cond.Cond.{Cond}
 use Rattle.sq_expr.specs.declared.expr.Expr.{Expr}
 use Rattle.sq_expr.specs.declared.expr.Kind.{Kind}
 use Rattle.sq_expr.specs.declared.expr.Kind.TheVariants as kind
-use Rattle.sq_expr.specs.Bigint.{first_not_bigint, is_bigint}
-use Rattle.sq_expr.specs.Columns.{members}
+use Rattle.sq_expr.specs.Bigint.{is_bigint}
 use Rattle.sq_expr.specs.Items.{IsStorable}
 use Rattle.sq_expr.specs.Kinds.{AreOfKinds, IsOfKind}
 use Rattle.sq_expr.specs.Meaning.{column_of, columns_of, num}
 use Rattle.sq_expr.proofs.Lists.{all_weaker}
 use Rattle.sq_expr.proofs.Rows.{integers_are_bigints}
 use Rattle.sq_algebra.specs.Keyed.{numbers_below}
-use Rattle.sq_ops.specs.Aggregates.{first_sum_outside}
 use Rattle.sq_ops.specs.Rows.{items_of, number_in}
 use Rattle.sq_ops.proofs.Ranges.{item_inside}
-use Rattle.sq_typed.specs.declared.query.BlockCall.{BlockCall}
 use Rattle.sq_typed.specs.declared.query.FromJoin.{FromJoin}
 use Rattle.sq_typed.specs.declared.query.FromJoin.TheVariants.{Comma, Inner, Left}
 use Rattle.sq_typed.specs.declared.query.Grouping.{Grouping}
 use Rattle.sq_typed.specs.Blocks.{arguments, block_answer, groups, item_rows, selected, tested_calls}
-use Rattle.sq_typed.specs.Fit.{AreAllOfKinds, GivesKinds, KindedSource, Pairwise, joined_kinds}
+use Rattle.sq_typed.specs.Fit.{AreAllOfKinds, GivesKinds, KindedSource, Pairwise}
 use Rattle.sq_typed.specs.From.{Row, Answer, Source, all_hold, inner, joined_by, kept, members_at, members_of, outer, stage, stages, stages_from, widths_of}
-use Rattle.sq_typed.specs.Laws.{AreOfWidth, HasItsWidth, last_of}
+use Rattle.sq_typed.specs.Laws.{AreOfWidth, HasItsWidth}
 use Rattle.sq_typed.specs.Queries.{after_each, chain_answer, has_range_fault, intersect_rows, is_crowded, is_outside, set_rows}
 use Rattle.sq_typed.proofs.ColumnLemmas.{pairs_are_part}
 use Rattle.sq_typed.proofs.FitRows.{joined_kinds_are, rows_of_where}
 use Rattle.sq_typed.proofs.Tests.{all_filter}
 use Rattle.sq_typed.proofs.WhereLemmas.{stage_keeps}
-use Rattle.sq_bridge.specs.Groups.{argument_items, block_node, group_items, group_rows, group_spec, has_group_fault, item_node, once_node, selected_node, tested_sums}
+use Rattle.sq_bridge.specs.Groups.{argument_items, block_node, group_items, has_group_fault, item_node, once_node, selected_node, tested_sums}
 use Rattle.sq_bridge.specs.Joins.{first_columns}
 use Rattle.sq_bridge.specs.Meaning.{AreMembersOf, AreStepsOf, AreWorth, CallsSuit, GroupsSuit, Holds, IsMemberOf, IsStepOf, IsWorth, IsWorthSource}
-use Rattle.sq_bridge.specs.Nodes.{Node, NodeSource, first_node, has_fault_of_pairs, has_item_outside, joined_node, lists_too_many, next_node, node_widths, nodes_from, pairs_with, stage_rows}
+use Rattle.sq_bridge.specs.Nodes.{Node, NodeSource, first_node, has_fault_of_pairs, has_item_outside, joined_node, lists_too_many, next_node, node_widths, nodes_from, stage_rows}
 use Rattle.sq_bridge.specs.Queries.{both_of, chain_node, set_result, step_node}
-use Rattle.sq_bridge.specs.Rows.{Rows, listed, projected}
+use Rattle.sq_bridge.specs.Rows.{Rows, listed}
 use Rattle.sq_bridge.proofs.Combining.{chain_step, common_step}
 use Rattle.sq_bridge.proofs.Grouping.{projected_is, values_at}
 use Rattle.sq_bridge.proofs.LeftJoining.{first_items}
 use Rattle.sq_bridge.proofs.Meaningful.{BlockFits, block_calls_suit, block_item_rows_are, block_rows_are}
-use Rattle.sq_bridge.proofs.Ranging.{any_flat, any_mapped, any_of_both, any_of_none, any_same, any_swapped, crowded_is, find_is, group_sums_outside, items_outside, none_of_all, or_assoc, or_false, outside_number, selected_outside}
+use Rattle.sq_bridge.proofs.Ranging.{any_flat, any_mapped, any_of_both, any_same, any_swapped, crowded_is, find_is, group_sums_outside, items_outside, none_of_all, or_assoc, or_false, outside_number, selected_outside}
 use Rattle.sq_bridge.proofs.Sorting.{sources_widths}
 use Rattle.sq_bridge.proofs.Staging.{first_holds, first_rows_are, joined_rows_are, next_holds, on_pairs_are, same_widths}
 

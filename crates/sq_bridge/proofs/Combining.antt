@@ -18,7 +18,7 @@ use Rattle.sq_bridge.specs.Joins.{same_rows}
 use Rattle.sq_bridge.specs.Meaning.{AreMembersOf, AreStepsOf, Holds, IsMemberOf, IsStepOf}
 use Rattle.sq_bridge.specs.Nodes.{Node}
 use Rattle.sq_bridge.specs.Queries.{both_of, chain_node, set_result, step_node}
-use Rattle.sq_bridge.specs.Rows.{Rows, listed, paired}
+use Rattle.sq_bridge.specs.Rows.{listed, paired}
 use Rattle.sq_bridge.proofs.LeftJoining.{same_on}
 
 -- ---- one step

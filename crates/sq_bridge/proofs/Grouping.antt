@@ -1,5 +1,5 @@
 -- Groups over expressions as a projection and an aggregate.
-use Rattle.std.proofs.Common.{◌≡◌, ℕ, suc, ◌+◌, ◌-◌, ◌≤◌, ℤ, pos, List, [], ◌∷◌, ◌++◌, map, fold, length, Bool, true, false, cond, not, Option, Some, None, filter, refl, sym, subst, ap, ap₂, ◌∙◌, append_assoc, arith, is_eq}
+use Rattle.std.proofs.Common.{◌≡◌, ℕ, suc, ◌-◌, ℤ, pos, List, [], ◌∷◌, ◌++◌, map, fold, length, Bool, true, false, cond, not, Option, Some, None, filter, refl, sym, subst, ap, ap₂, ◌∙◌, append_assoc, arith, is_eq}
 use Rattle.std.proofs.lemmas.Int.{ints}
 use Rattle.std.specs.Prelude.{◌+ℤ◌, option_to_list}
 use Rattle.std.specs.List.{AllByRecursion, flat_map}
@@ -22,8 +22,6 @@ use Rattle.sq_expr.specs.Typing.{IsOfSort}
 use Rattle.sq_expr.specs.declared.typing.Sort.TheVariants.{Numeric}
 use Rattle.sq_expr.proofs.Equations.{num-Column}
 use Rattle.sq_expr.proofs.Lists.{all_weaker}
-use Rattle.sq_ops.specs.declared.aggregate.AggSpec.{AggSpec}
-use Rattle.sq_ops.specs.declared.aggregate.Call.{Call}
 use Rattle.sq_ops.specs.Aggregates.{aggregated, group_of, has_value, number_at, number_or_zero}
 use Rattle.sq_ops.specs.Lists.{group_of_list, list_value, row_of_list, values_of}
 use Rattle.sq_ops.specs.Rows.{items_of}
@@ -32,9 +30,9 @@ use Rattle.sq_ops.proofs.Indexing.{equals_itself}
 use Rattle.sq_ops.proofs.ListTies.{all_of_list, groups_of_list}
 use Rattle.sq_typed.specs.declared.query.BlockCall.{BlockCall}
 use Rattle.sq_typed.specs.declared.query.Grouping.{Grouping}
-use Rattle.sq_typed.specs.Blocks.{arguments, call_value, group_row, groups, is_sum, item_rows, present, selected, sum_or_null, without_repeats}
+use Rattle.sq_typed.specs.Blocks.{call_value, group_row, groups, is_sum, item_rows, present, selected, sum_or_null, without_repeats}
 use Rattle.sq_typed.specs.Fit.{is_count_all}
-use Rattle.sq_typed.specs.From.{Row, all_hold, members_of}
+use Rattle.sq_typed.specs.From.{Row, members_of}
 use Rattle.sq_typed.proofs.AnswerLemmas.{all_first}
 use Rattle.sq_typed.proofs.FitRows.{length_mapped}
 use Rattle.sq_typed.proofs.Tests.{all_filter, every, filter_same}

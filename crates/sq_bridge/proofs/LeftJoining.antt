@@ -1,9 +1,7 @@
 -- Left joins as pairs, and the padded rows that have none.
-use Rattle.std.proofs.Common.{◌≡◌, ℕ, ◌+◌, List, [], ◌∷◌, ◌++◌, map, take, length, Bool, true, false, cond, not, ◌&&◌, Some, filter, refl, sym, ap, ap₂, ◌∙◌, arith, is_eq}
-use Rattle.std.specs.Prelude.{replicate}
+use Rattle.std.proofs.Common.{◌≡◌, ℕ, List, [], ◌∷◌, ◌++◌, map, length, Bool, true, false, cond, not, ◌&&◌, Some, filter, refl, sym, ap, ap₂, ◌∙◌, arith, is_eq}
 use Rattle.std.specs.List.{AllByRecursion, flat_map, list_any}
 use Rattle.std.proofs.lemmas.List.{length-append, map-append, take_at}
-use Rattle.sq_value.specs.declared.value.Value.TheVariants.{Null}
 use Rattle.sq_value.specs.Order.{row_cmp}
 use Rattle.sq_value.specs.OrderLaws.{row_cmp-total, row_cmp-antisymmetric}
 use Rattle.sq_algebra.specs.Keyed.{numbers_below}
@@ -19,8 +17,7 @@ use Rattle.sq_expr.specs.Meaning.{column_of, columns_of, num}
 use Rattle.sq_expr.proofs.Equations.{num-Column}
 use Rattle.sq_expr.proofs.Lists.{all_flattened, all_weaker}
 use Rattle.sq_ops.specs.Rows.{Row, holds, items_of, padded}
-use Rattle.sq_ops.proofs.Indexing.{same_row, equals_itself}
-use Rattle.sq_typed.specs.From.{all_hold, inner, matches, or_padded, outer}
+use Rattle.sq_typed.specs.From.{all_hold, matches, or_padded, outer}
 use Rattle.sq_typed.specs.Laws.{AreOfWidth}
 use Rattle.sq_typed.proofs.AnswerLemmas.{all_first}
 use Rattle.sq_typed.proofs.Tests.{every}

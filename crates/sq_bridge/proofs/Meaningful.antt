@@ -1,5 +1,5 @@
 -- The node of a query is worth what the query gives.
-use Rattle.std.proofs.Common.{◌≡◌, ℕ, zero, suc, ◌≤◌, List, [], ◌∷◌, ◌++◌, map, fold, length, get_or, Bool, true, false, not, ◌&&◌, ◌||◌, refl, sym, ap, subst, ◌∙◌, arith}
+use Rattle.std.proofs.Common.{◌≡◌, ℕ, zero, suc, ◌≤◌, List, [], ◌∷◌, ◌++◌, map, fold, length, get_or, Bool, true, false, not, ◌&&◌, ◌||◌, refl, sym, ap, subst, ◌∙◌}
 use Rattle.std.specs.Prelude.{nat_lt, slice_get, Option, Some, None}
 use Rattle.std.specs.List.{AllByRecursion, list_all}
 use Rattle.sq_value.specs.Order.{row_cmp}
@@ -14,7 +14,7 @@ use Rattle.sq_expr.specs.declared.typing.Sort.TheVariants.{Numeric}
 use Rattle.sq_expr.specs.Columns.{cond_columns, width_of}
 use Rattle.sq_expr.specs.Meaning.{num}
 use Rattle.sq_expr.specs.Typing.{IsOfSort, are_alike, is_numeric, sort_of, sort_of_kind}
-use Rattle.sq_expr.proofs.Lists.{all_from, all_pass, all_weaker}
+use Rattle.sq_expr.proofs.Lists.{all_weaker}
 use Rattle.sq_typed.specs.declared.query.Block.{Block, out-Block}
 use Rattle.sq_typed.specs.declared.query.BlockCall.{BlockCall}
 use Rattle.sq_typed.specs.declared.query.FromItem.{FromItem}
@@ -27,18 +27,18 @@ use Rattle.sq_typed.specs.declared.query.Query.{Query}
 use Rattle.sq_typed.specs.declared.query.Query.TheVariants as query
 use Rattle.sq_typed.specs.declared.query.SetStep.{SetStep}
 use Rattle.sq_typed.specs.Blocks.{block_answer, is_sum, item_rows, selected}
-use Rattle.sq_typed.specs.Fit.{Fits, Kinded, KindedSource, Pairwise, are_matched, argument_fits, block_kinded, clauses_fit, grouped_kinds, grouping_fits, has_some, is_count_all, item_row_kinds, joined_kinds, kinded, kinded_origin, kinded_source, may_group, may_suit, on_suits, operation_kinded, sources_fit, suits}
+use Rattle.sq_typed.specs.Fit.{Fits, Kinded, KindedSource, Pairwise, are_matched, argument_fits, block_kinded, clauses_fit, grouped_kinds, has_some, is_count_all, item_row_kinds, joined_kinds, kinded, kinded_origin, kinded_source, may_group, may_suit, on_suits, operation_kinded, sources_fit, suits}
 use Rattle.sq_typed.specs.From.{Row, Answer, Source, kept, members_of}
-use Rattle.sq_typed.specs.Laws.{AreOfWidth, HasItsWidth, width_of_all}
-use Rattle.sq_typed.specs.Queries.{Contents, answer, chain_answer, intersect_answer, intersect_rows, member_answer, origin_answer, relation_answer, set_rows, source_of_item}
+use Rattle.sq_typed.specs.Laws.{AreOfWidth, width_of_all}
+use Rattle.sq_typed.specs.Queries.{Contents, answer, chain_answer, intersect_answer, member_answer, origin_answer, relation_answer, set_rows, source_of_item}
 use Rattle.sq_typed.specs.Within.{BlockOf}
 use Rattle.sq_typed.proofs.Equations.{answer-Block, answer-Chain, answer-Intersect, member-is, origin-Query, origin-Relation, source-is}
 use Rattle.sq_typed.proofs.FitEquations.{kinded-Block, kinded-Chain, kinded-Intersect, kinded-Query, kinded_source-is}
-use Rattle.sq_typed.proofs.FitQueries.{members_fit, operands_fit, pairwise_mapped}
+use Rattle.sq_typed.proofs.FitQueries.{members_fit, pairwise_mapped}
 use Rattle.sq_typed.proofs.Tests.{and_left, and_right}
 use Rattle.sq_typed.proofs.Trees.{QueryCases, each_origin, each_query}
 use Rattle.sq_bridge.specs.Groups.{block_node, item_node, once_node, selected_node}
-use Rattle.sq_bridge.specs.Meaning.{AreMembersOf, AreStepsOf, AreWorth, Begins, CallSuits, CallsSuit, GroupsSuit, Holds, IsMemberOf, IsStepOf, IsWorth, IsWorthRelation, IsWorthSource, begins, is_comma}
+use Rattle.sq_bridge.specs.Meaning.{AreWorth, Begins, CallSuits, CallsSuit, GroupsSuit, Holds, IsMemberOf, IsStepOf, IsWorth, IsWorthRelation, IsWorthSource, begins, is_comma}
 use Rattle.sq_bridge.specs.Nodes.{Node, NodeSource, joined_node, no_node}
 use Rattle.sq_bridge.specs.Queries.{both_of, chain_node, intersect_node, member_node, origin_node, query_node, relation_node, set_result, source_node, step_node}
 use Rattle.sq_bridge.specs.Rows.{listed, projected}
@@ -46,7 +46,7 @@ use Rattle.sq_bridge.specs.Sorts.{AreAllOfSorts, AreOfSorts, GivesSorts, HoldsSo
 use Rattle.sq_bridge.proofs.Combining.{chain_holds, intersect_holds}
 use Rattle.sq_bridge.proofs.Grouping.{item_rows_are, once_is, selected_are}
 use Rattle.sq_bridge.proofs.NodeEquations.{member_node-is, node-Block, node-Chain, node-Intersect, node-Query, node-Relation, source_node-is}
-use Rattle.sq_bridge.proofs.Sorting.{SourceGives, all_widths, kept_sorts, length_of_sorts, numbers_are, origin_sorts, query_sorts, sorts_width, sources_sorts, sources_widths}
+use Rattle.sq_bridge.proofs.Sorting.{SourceGives, all_widths, kept_sorts, length_of_sorts, numbers_are, query_sorts, sorts_width, sources_sorts, sources_widths}
 use Rattle.sq_bridge.proofs.Staging.{joined_rows_kept}
 
 -- ---- lists by place

@@ -1,5 +1,5 @@
 -- What the node of a query is, one equation for each form of it.
-use Rattle.std.proofs.Common.{◌≡◌, ℕ, List, [], map, ap, sym, ◌∙◌, get_or}
+use Rattle.std.proofs.Common.{◌≡◌, ℕ, List, map, ap, sym, ◌∙◌, get_or}
 use Rattle.sq_ast.specs.declared.query.SetOp.{SetOp}
 use Rattle.sq_typed.specs.declared.query.Query.{Query, roll-Query}
 use Rattle.sq_typed.specs.declared.query.Query.TheVariants as query

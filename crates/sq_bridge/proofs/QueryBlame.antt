@@ -1,7 +1,6 @@
 -- The node of a query has a fault exactly if its answer is out of range.
-use Rattle.std.proofs.Common.{◌≡◌, ℕ, List, [], ◌∷◌, ◌++◌, map, fold, length, get_or, Bool, true, false, ◌&&◌, ◌||◌, refl, sym, ap, ap₂, subst, ◌∙◌}
+use Rattle.std.proofs.Common.{◌≡◌, List, [], ◌∷◌, ◌++◌, map, Bool, true, false, ◌&&◌, ◌||◌, refl, sym, ap, ap₂, subst, ◌∙◌}
 use Rattle.std.specs.List.{AllByRecursion, list_all, list_any}
-use Rattle.sq_ast.specs.declared.query.SetOp.{SetOp}
 use Rattle.sq_expr.specs.declared.cond.Cond.{Cond}
 use Rattle.sq_expr.specs.declared.expr.Expr.{Expr}
 use Rattle.sq_expr.specs.declared.expr.Kind.{Kind}
@@ -12,13 +11,10 @@ use Rattle.sq_typed.specs.declared.query.Block.{out-Block}
 use Rattle.sq_typed.specs.declared.query.FromItem.{FromItem}
 use Rattle.sq_typed.specs.declared.query.Grouping.{Grouping}
 use Rattle.sq_typed.specs.declared.query.Origin.{Origin}
-use Rattle.sq_typed.specs.declared.query.Origin.TheVariants as origin
 use Rattle.sq_typed.specs.declared.query.Query.{Query}
-use Rattle.sq_typed.specs.declared.query.Query.TheVariants as query
 use Rattle.sq_typed.specs.declared.query.SetStep.{SetStep}
 use Rattle.sq_typed.specs.Blocks.{block_answer}
 use Rattle.sq_typed.specs.Fit.{Fits, HoldsKinds, Kinded, KindedSource, Pairwise, are_matched, block_kinded, kinded, kinded_origin, kinded_source, on_suits, operation_kinded, sources_fit}
-use Rattle.sq_typed.specs.From.{Source}
 use Rattle.sq_typed.specs.Queries.{Contents, after_each, answer, chain_answer, has_range_fault, intersect_answer, intersect_rows, is_crowded, member_answer, origin_answer, set_rows, source_of_item}
 use Rattle.sq_typed.proofs.Equations.{answer-Block, answer-Chain, answer-Intersect, member-is, origin-Query, origin-Relation, source-is}
 use Rattle.sq_typed.proofs.FitEquations.{kinded-Block, kinded-Chain, kinded-Intersect, kinded-Query, kinded_source-is}
@@ -28,7 +24,7 @@ use Rattle.sq_typed.proofs.Trees.{QueryCases, each_query}
 use Rattle.sq_typed.specs.Within.{BlockOf}
 use Rattle.sq_bridge.specs.Groups.{block_node}
 use Rattle.sq_bridge.specs.Meaning.{Begins, IsMemberOf, IsStepOf, IsWorthRelation, begins}
-use Rattle.sq_bridge.specs.Nodes.{Node, NodeSource}
+use Rattle.sq_bridge.specs.Nodes.{Node}
 use Rattle.sq_bridge.specs.Queries.{chain_node, intersect_node, member_node, origin_node, query_node, source_node}
 use Rattle.sq_bridge.specs.Sorts.{HoldsSorts}
 use Rattle.sq_bridge.proofs.Blaming.{FaultsAgree, SourceIsGood, any_same_of, block_fault, chain_answer_fault, chain_fault, common_fault}

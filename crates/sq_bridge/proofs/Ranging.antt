@@ -1,5 +1,5 @@
 -- A number is outside BIGINT on lists exactly if an operator says so of their Z-sets, and a place has as many rows as its list.
-use Rattle.std.proofs.Common.{◌≡◌, ℕ, zero, suc, ◌^◌, ℤ, pos, List, [], ◌∷◌, ◌++◌, map, fold, length, Bool, true, false, cond, not, ◌&&◌, ◌||◌, Option, Some, None, filter, refl, sym, subst, ap, ap₂, ◌∙◌, append_assoc, arith, is_eq, Less, Equal, Greater}
+use Rattle.std.proofs.Common.{◌≡◌, ℕ, suc, ◌^◌, ℤ, pos, List, [], ◌∷◌, ◌++◌, map, length, Bool, true, false, cond, not, ◌&&◌, ◌||◌, Option, Some, None, filter, refl, sym, ap, ap₂, ◌∙◌, append_assoc, arith, is_eq, Less, Equal, Greater}
 use Rattle.std.proofs.lemmas.Int.{ints}
 use Rattle.std.specs.Prelude.{◌+ℤ◌, int_lt, is_some, option_to_list}
 use Rattle.std.specs.List.{AllByRecursion, find, flat_map, list_any}
@@ -10,9 +10,9 @@ use Rattle.sq_value.specs.declared.value.Value.TheVariants.{Null, Int, Text}
 use Rattle.sq_value.specs.Order.{row_cmp}
 use Rattle.sq_value.specs.OrderLaws.{row_cmp-total, row_cmp-antisymmetric}
 use Rattle.sq_algebra.specs.Groups.{integers, sum_over}
-use Rattle.sq_algebra.specs.Keyed.{at_key, keys_of, members_at}
+use Rattle.sq_algebra.specs.Keyed.{keys_of}
 use Rattle.sq_algebra.specs.Listed.{count, first_of_each, in_order, place}
-use Rattle.sq_algebra.specs.ZSet.{ZSet, entries, of_list, total}
+use Rattle.sq_algebra.specs.ZSet.{ZSet, entries}
 use Rattle.sq_algebra.proofs.GroupingLemmas.{at_key-of_list}
 use Rattle.sq_algebra.proofs.MemberLemmas.{entries-of_list}
 use Rattle.sq_zset.proofs.RowOperators.{image-of_list-map, lin-of_list}
@@ -22,19 +22,17 @@ use Rattle.sq_expr.specs.declared.expr.Expr.{Expr}
 use Rattle.sq_expr.specs.declared.expr.Func.{Func}
 use Rattle.sq_expr.specs.declared.expr.Func.TheVariants.{CountAll, Count, Sum, Min, Max}
 use Rattle.sq_expr.specs.declared.typing.Sort.TheVariants.{Numeric}
-use Rattle.sq_expr.specs.Bigint.{first_not_bigint, is_bigint}
+use Rattle.sq_expr.specs.Bigint.{is_bigint}
 use Rattle.sq_expr.specs.Meaning.{column_of, columns_of, num, sum_of}
 use Rattle.sq_expr.specs.Typing.{IsOfSort}
-use Rattle.sq_ops.specs.declared.aggregate.AggSpec.{AggSpec}
 use Rattle.sq_ops.specs.declared.aggregate.Call.{Call}
 use Rattle.sq_ops.specs.Aggregates.{first_sum_outside, group_of, groups_of, keyed_sums, number_at, number_or_zero, rows_of_group, sum_in, sums_of, tested_sum}
-use Rattle.sq_ops.specs.Extensions.{first_value_outside}
 use Rattle.sq_ops.specs.Rows.{items_of, number_in, numbers_of}
 use Rattle.sq_ops.specs.Wholes.{has_no_values}
 use Rattle.sq_ops.proofs.Indexing.{same_row}
 use Rattle.sq_typed.specs.declared.query.BlockCall.{BlockCall}
 use Rattle.sq_typed.specs.declared.query.Grouping.{Grouping}
-use Rattle.sq_typed.specs.Blocks.{arguments, call_value, groups, is_sum, present, selected, sum_or_null}
+use Rattle.sq_typed.specs.Blocks.{call_value, groups, is_sum, present, selected, sum_or_null}
 use Rattle.sq_typed.specs.Fit.{is_count_all}
 use Rattle.sq_typed.specs.From.{Row}
 use Rattle.sq_typed.specs.Queries.{is_crowded, is_outside}
@@ -44,8 +42,7 @@ use Rattle.sq_bridge.specs.Groups.{argument_items, behind, calls_from, group_ite
 use Rattle.sq_bridge.specs.Meaning.{CallSuits, CallsSuit}
 use Rattle.sq_bridge.specs.Nodes.{has_item_outside, lists_too_many}
 use Rattle.sq_bridge.specs.Rows.{listed, projected}
-use Rattle.sq_bridge.proofs.Grouping.{added, calls_filtered, column_is, column_values, found, found_is, key_is, made, length_more, next_column, numbers_mapped, of_key, projected_is, sum_of_column, values_at}
-use Rattle.sq_bridge.proofs.Lists.{map_of_map, map_same}
+use Rattle.sq_bridge.proofs.Grouping.{added, calls_filtered, column_is, found, found_is, key_is, made, length_more, next_column, numbers_mapped, projected_is, sum_of_column, values_at}
 
 -- ---- tests of some member
 

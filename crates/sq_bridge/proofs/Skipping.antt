@@ -1,9 +1,7 @@
 -- Operators that change nothing.
-use Rattle.std.proofs.Common.{◌≡◌, ℕ, List, [], ◌∷◌, map, length, true, cond, refl, ap, ap₂, ◌∙◌}
-use Rattle.std.specs.List.{AllByRecursion}
-use Rattle.sq_value.specs.Order.{row_cmp}
+use Rattle.std.proofs.Common.{◌≡◌, ℕ, List, [], ◌∷◌, map, true, refl, ap, ap₂, ◌∙◌}
 use Rattle.sq_expr.specs.declared.cond.Cond.TheVariants as condition
-use Rattle.sq_ops.specs.Rows.{Row, holds, items_of, kept}
+use Rattle.sq_ops.specs.Rows.{Row, holds, items_of}
 use Rattle.sq_ops.proofs.Extending.{test_is_keep}
 use Rattle.sq_zset.proofs.RowOperators.{image-of_list-map, keep_agree, keep_all}
 use Rattle.sq_typed.specs.Laws.{AreOfWidth}

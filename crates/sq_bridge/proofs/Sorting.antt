@@ -1,7 +1,7 @@
 -- The rows of queries are of their columns' sorts.
 use Rattle.std.proofs.Common.{◌≡◌, ℕ, zero, suc, ℤ, pos, List, [], ◌∷◌, ◌++◌, map, fold, length, get_or, Bool, true, false, cond, not, ◌&&◌, ◌==◌, filter, refl, sym, ap, subst, ◌∙◌, append_assoc, arith, is_eq}
 use Rattle.std.specs.Prelude.{◌+ℤ◌, ◌*ℤ◌, replicate, slice_get, Option, Some, None, option_map}
-use Rattle.std.specs.List.{AllByRecursion, flat_map, list_all}
+use Rattle.std.specs.List.{AllByRecursion, list_all}
 use Rattle.std.specs.Ordering.{is_lt}
 use Rattle.std.proofs.lemmas.List.{append-nil, length-append}
 use Rattle.sq_value.specs.declared.value.Value.{Value}
@@ -24,11 +24,11 @@ use Rattle.sq_expr.specs.declared.typing.Sort.{Sort}
 use Rattle.sq_expr.specs.declared.typing.Sort.TheVariants.{Numeric, Textual}
 use Rattle.sq_expr.specs.Extremes.{greatest_or_null, least_or_null}
 use Rattle.sq_expr.specs.Kinds.{AreOfKinds, IsOfKind}
-use Rattle.sq_expr.specs.Meaning.{column_of, columns_of, is_null, negative, num, of_both, product_of, sum_of, term_num}
+use Rattle.sq_expr.specs.Meaning.{column_of, columns_of, is_null, negative, num, of_both, term_num}
 use Rattle.sq_expr.specs.Typing.{IsOfSort, are_alike, is_numeric, sort_of, sort_of_kind}
 use Rattle.sq_expr.proofs.Equations.{num-Column, num-Neg, num-Number, num-Product, num-Sum, num-Text, sort_of-Column, sort_of-Text}
 use Rattle.sq_expr.proofs.Lists.{all_append, all_flattened, all_weaker}
-use Rattle.sq_typed.specs.declared.query.Block.{Block, out-Block}
+use Rattle.sq_typed.specs.declared.query.Block.{out-Block}
 use Rattle.sq_typed.specs.declared.query.BlockCall.{BlockCall}
 use Rattle.sq_typed.specs.declared.query.FromItem.{FromItem}
 use Rattle.sq_typed.specs.declared.query.FromJoin.{FromJoin}

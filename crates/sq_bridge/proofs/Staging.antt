@@ -1,6 +1,6 @@
 -- FROM and WHERE, source by source.
-use Rattle.std.proofs.Common.{◌≡◌, ℕ, suc, ◌+◌, ◌≤◌, List, [], ◌∷◌, ◌++◌, map, length, Bool, true, false, cond, ◌&&◌, filter, refl, sym, subst, ap, ap₂, ◌∙◌, arith, zero-add}
-use Rattle.std.specs.List.{AllByRecursion, flat_map}
+use Rattle.std.proofs.Common.{◌≡◌, ℕ, suc, ◌+◌, ◌≤◌, List, [], ◌∷◌, ◌++◌, map, length, Bool, true, false, ◌&&◌, refl, sym, subst, ap, ap₂, ◌∙◌, zero-add}
+use Rattle.std.specs.List.{AllByRecursion}
 use Rattle.sq_value.specs.Truth.{is_true}
 use Rattle.sq_expr.specs.declared.cond.Cond.{Cond}
 use Rattle.sq_expr.specs.Columns.{cond_columns, members, width_of}
@@ -14,7 +14,7 @@ use Rattle.sq_typed.proofs.WhereLemmas.{joined_width, members_hold, stage_keeps,
 use Rattle.sq_bridge.specs.Joins.{joined_on, left_joined}
 use Rattle.sq_bridge.specs.Meaning.{AreWorth, Holds, IsWorth, IsWorthSource}
 use Rattle.sq_bridge.specs.Nodes.{Node, NodeSource, first_node, joined_node, next_node, node_widths, nodes_from, on_members, stage_rows}
-use Rattle.sq_bridge.specs.Rows.{Rows, kept_on_all, listed, paired}
+use Rattle.sq_bridge.specs.Rows.{kept_on_all, listed, paired}
 use Rattle.sq_bridge.proofs.Joining.{first_kept, kept_all, pairs_on}
 use Rattle.sq_bridge.proofs.LeftJoining.{left_on}
 use Rattle.sq_bridge.proofs.Lists.{flat_map_agree}

@@ -1,7 +1,7 @@
 -- Which kinds of rows the operators take.
-use Rattle.std.proofs.Common.{rules, ◌≡◌, ℕ, zero, suc, ◌+◌, ◌^◌, ◌<◌, ◌≤◌, List, [], ◌∷◌, ◌++◌, map, length, get_or, Bool, true, false, not, ◌&&◌, ◌||◌, cond, Option, Some, None, ◌⊎◌, inl, inr, refl, sym, ap, ap₂, subst, ◌∙◌, arith}
-use Rattle.std.specs.Prelude.{IsSome, IsTrue, is_some, max, nat_lt, option_map, option_to_list, slice_get, unwrap_or}
-use Rattle.std.specs.List.{AllByRecursion, flat_map, list_all}
+use Rattle.std.proofs.Common.{rules, ◌≡◌, ℕ, zero, suc, ◌+◌, ◌^◌, ◌<◌, ◌≤◌, List, [], ◌∷◌, ◌++◌, map, length, get_or, true, not, ◌&&◌, Option, Some, None, ◌⊎◌, inl, inr, refl, sym, ap, ap₂, subst, ◌∙◌, arith}
+use Rattle.std.specs.Prelude.{IsSome, is_some, nat_lt, option_map, option_to_list, slice_get, unwrap_or}
+use Rattle.std.specs.List.{AllByRecursion, list_all}
 use Rattle.std.proofs.lemmas.Bool.{lt-ltb, ltb-true}
 use Rattle.std.proofs.lemmas.List.{length-append}
 use Rattle.std.proofs.lemmas.Option.{slice_get-get_or}
@@ -9,19 +9,17 @@ use Rattle.sq_algebra.specs.Keyed.{numbers_below}
 use Rattle.sq_expr.specs.declared.cond.Cmp.TheVariants.{Eq}
 use Rattle.sq_expr.specs.declared.cond.Cond.{Cond}
 use Rattle.sq_expr.specs.declared.cond.Cond.TheVariants as condition
-use Rattle.sq_expr.specs.declared.expr.Expr.{Expr}
 use Rattle.sq_expr.specs.declared.expr.Expr.TheVariants as expr
 use Rattle.sq_expr.specs.declared.expr.Kind.{Kind}
 use Rattle.sq_expr.specs.declared.expr.Kind.TheVariants.{Integer, Bigint, Text}
 use Rattle.sq_expr.specs.Bounds.{bound_of, kind_bound}
-use Rattle.sq_expr.specs.Columns.{cond_columns, columns, width_of}
+use Rattle.sq_expr.specs.Columns.{cond_columns}
 use Rattle.sq_expr.specs.Fits.{Suits, SuitsCond}
-use Rattle.sq_expr.specs.Typing.{is_typed_cond, sort_of, sort_of_kind}
+use Rattle.sq_expr.specs.Typing.{is_typed_cond, sort_of_kind}
 use Rattle.sq_expr.proofs.Equations.{bound_of-Column, columns-Column, cond_columns-Compare, parts-Column, sort_of-Column}
 use Rattle.sq_expr.proofs.Lists.{all_weaker}
 use Rattle.sq_expr.proofs.Names.{cond_names_in_range, width_is}
 use Rattle.sq_expr.proofs.Typed.{bounded_all, typed_all}
-use Rattle.sq_ops.specs.JoinLaws.{AreBelow, SuitsPairing}
 use Rattle.sq_typed.proofs.Tests.{all_filter, and_left, and_right, list_all-append}
 use Rattle.sq_bridge.specs.Joins.{IsKeyOf, first_columns, joined_on, key_of, keys_among, other_conds, same_rows}
 use Rattle.sq_bridge.specs.Rows.{PairingSuits}

@@ -1,7 +1,7 @@
 -- The view nodes of a program are worth what its views give, and the first with a fault is the first view that cannot be shown.
 use Rattle.std.proofs.Common.{◌≡◌, ℕ, suc, ◌+◌, List, [], ◌∷◌, ◌++◌, map, fold, drop, length, Bool, true, false, cond, refl, sym, ap, ap₂, subst, ◌∙◌}
-use Rattle.std.specs.Prelude.{nat_lt, Option, Some, None}
-use Rattle.std.specs.List.{AllByRecursion, position, position_or_len}
+use Rattle.std.specs.Prelude.{nat_lt, Some, None}
+use Rattle.std.specs.List.{AllByRecursion, position_or_len}
 use Rattle.std.proofs.lemmas.List.Recursion.{is_position_or_len}
 use Rattle.sq_value.specs.Order.{row_cmp}
 use Rattle.sq_value.specs.OrderLaws.{row_cmp-total, row_cmp-antisymmetric}
@@ -14,7 +14,7 @@ use Rattle.sq_expr.specs.Kinds.{AreOfKinds}
 use Rattle.sq_expr.proofs.Lists.{all_front, all_back, all_weaker}
 use Rattle.sq_typed.specs.declared.query.Query.{Query}
 use Rattle.sq_typed.specs.Fit.{AreAllOfKinds, FirstFits, Fits, HoldsKinds, Pairwise, ProgramFits, TablesAreOfKinds, kinds_given, kinds_of}
-use Rattle.sq_typed.specs.From.{Answer, Row}
+use Rattle.sq_typed.specs.From.{Answer}
 use Rattle.sq_typed.specs.Laws.{by_kind}
 use Rattle.sq_typed.specs.Queries.{Contents, answer, has_range_fault}
 use Rattle.sq_typed.specs.Tables.{Tables}
@@ -24,7 +24,7 @@ use Rattle.sq_typed.proofs.FitRows.{length_mapped}
 use Rattle.sq_bridge.specs.Meaning.{Begins, IsWorth, IsWorthRelation}
 use Rattle.sq_bridge.specs.Nodes.{Node}
 use Rattle.sq_bridge.specs.Queries.{query_node}
-use Rattle.sq_bridge.specs.Rows.{Rows, listed}
+use Rattle.sq_bridge.specs.Rows.{listed}
 use Rattle.sq_bridge.specs.Sorts.{AreOfSorts, GivesSorts, HoldsSorts}
 use Rattle.sq_bridge.specs.Views.{NodeStanding, first_table, node_of_first, node_verdict, view_nodes, with_relation_node, with_table_node, with_view_node}
 use Rattle.sq_bridge.proofs.Meaningful.{query_means}

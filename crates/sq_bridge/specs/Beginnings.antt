@@ -1,5 +1,5 @@
 -- Whether each block of a query begins with a comma, at any depth, as a test.
-use Rattle.std.specs.Prelude.{ℕ, Bool, true, false, ◌&&◌, List, [], ◌∷◌}
+use Rattle.std.specs.Prelude.{Bool, true, false, ◌&&◌, List, [], ◌∷◌}
 use Rattle.std.specs.List.{list_all}
 use Rattle.sq_typed.specs.declared.query.Origin.{Origin}
 use Rattle.sq_typed.specs.declared.query.Origin.TheFolds.{fold-Query, fold-FromItem, fold-Origin}

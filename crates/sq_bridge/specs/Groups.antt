@@ -4,7 +4,6 @@
 use Rattle.std.specs.Prelude.{ℕ, suc, ◌+◌, ◌||◌, Bool, true, false, List, [], ◌∷◌, ◌++◌, length, map, Option, Some, None, is_some, option_to_list}
 use Rattle.std.specs.List.{filter, flat_map}
 use Rattle.sq_value.specs.declared.value.Value.{Value}
-use Rattle.sq_value.specs.Order.{row_cmp}
 use Rattle.sq_algebra.specs.Keyed.{numbers_below}
 use Rattle.sq_algebra.specs.Operators.{distinct}
 use Rattle.sq_expr.specs.declared.cond.Cond.{Cond}

@@ -1,7 +1,6 @@
 -- Set operations and whole queries as operators, by the same fold as what a query means over lists.
 --     query_node relations q      the node of a query over those of the relations before it
 use Rattle.std.specs.Prelude.{ℕ, ◌||◌, false, List, [], ◌∷◌, fold, get_or}
-use Rattle.sq_value.specs.Order.{row_cmp}
 use Rattle.sq_algebra.specs.Operators.{distinct}
 use Rattle.sq_algebra.specs.ZSet.{minus, plus}
 use Rattle.sq_ast.specs.declared.query.SetOp.{SetOp}

@@ -1,7 +1,6 @@
 -- What the operators of sq_ops make of Z-sets of rows.
 --     listed rows        the Z-set of a list of rows.      kept_on c z, projected es z, padded_by n z, paired op y z      the operators
 use Rattle.std.specs.Prelude.{ℕ, List, [], ◌∷◌}
-use Rattle.sq_value.specs.declared.value.Value.{Value}
 use Rattle.sq_value.specs.Order.{row_cmp}
 use Rattle.sq_algebra.specs.Operators.{image}
 use Rattle.sq_algebra.specs.ZSet.{ZSet, of_list}

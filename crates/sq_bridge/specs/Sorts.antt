@@ -1,6 +1,6 @@
 -- Rows whose values are numbers or texts as their columns say, in any range.
 --     AreOfSorts row kinds        NULL is of every sort, and a number is of the sort of INTEGER and of BIGINT, however large it is
-use Rattle.std.specs.Prelude.{◌≡◌, ℕ, length, List, [], ◌∷◌, ⊤}
+use Rattle.std.specs.Prelude.{◌≡◌, length, List, [], ◌∷◌, ⊤}
 use Rattle.std.specs.List.{AllByRecursion}
 use Rattle.sq_value.specs.declared.value.Value.{Value}
 use Rattle.sq_expr.specs.declared.expr.Kind.{Kind}
