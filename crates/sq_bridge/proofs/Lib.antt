@@ -16,3 +16,4 @@ pub mod Keying
 pub mod Suiting
 pub mod GroupSuiting
 pub mod Skipping
+pub mod Counting

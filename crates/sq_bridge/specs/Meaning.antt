@@ -1,6 +1,6 @@
 -- What a node has to be to stand for what a query gives.
 --     IsWorth n a          the rows of the node are the Z-set of the answer's rows.      Begins q      each block begins with a comma
-use Rattle.std.specs.Prelude.{◌≡◌, ℕ, Bool, true, false, List, [], ◌∷◌, fold, Option, Some, None, ⊤}
+use Rattle.std.specs.Prelude.{◌≡◌, ◌≤◌, ◌^◌, length, ℕ, Bool, true, false, List, [], ◌∷◌, fold, Option, Some, None, ⊤}
 use Rattle.std.specs.List.{AllByRecursion}
 use Rattle.sq_ast.specs.declared.query.SetOp.{SetOp}
 use Rattle.sq_expr.specs.declared.cond.Cond.{Cond}
@@ -141,3 +141,11 @@ MeanQueries nodes relations kinds = (q : Query) → Fits kinds q → Begins q �
 -- it has a fault exactly if the query is out of range
 abbrev pub BlameQueries : List Node → List Contents → List (List Kind) → Type 0
 BlameQueries nodes relations kinds = (q : Query) → Fits kinds q → Begins q → (query_node nodes q).fault ≡ has_range_fault (answer relations q)
+
+-- a relation has at most 2^61 rows
+abbrev pub HasFewRows : Contents → Type 0
+HasFewRows c = length c.rows ≤ 2 ^ 61
+
+-- a query that is not out of range gives at most so many
+abbrev pub GivesFewRows : List Contents → Query → Type 0
+GivesFewRows relations q = has_range_fault (answer relations q) ≡ false → length (answer relations q).rows ≤ 2 ^ 61

@@ -1,13 +1,16 @@
 //! Numbers outside BIGINT and places with too many rows, on lists and as operators say it.
 ghost use Rattle.std.specs.Prelude.{◌≡◌, List};
-ghost use Rattle.std.specs.List.{flat_map, list_any};
+ghost use Rattle.std.specs.List.{AllByRecursion, flat_map, list_any};
 ghost use Rattle.sq_expr.specs.declared.expr.Expr.{Expr as Expression};
+ghost use Rattle.sq_expr.specs.declared.expr.Kind.{Kind as ColumnKind};
+ghost use Rattle.sq_typed.specs.Fit.{Fits};
 ghost use Rattle.sq_typed.specs.Blocks.{groups, selected};
 ghost use Rattle.sq_typed.specs.From.{Row};
-ghost use Rattle.sq_typed.specs.Queries.{is_crowded, is_outside};
+ghost use Rattle.sq_typed.specs.Queries.{Contents, is_crowded, is_outside};
+ghost use Rattle.sq_typed.specs.declared.query.Query.{Query as Selection};
 ghost use Rattle.sq_typed.specs.declared.query.Grouping.{Grouping as Groups};
 ghost use Rattle.sq_bridge.specs.Groups.{has_sum_outside, tested_sums};
-ghost use Rattle.sq_bridge.specs.Meaning.{CallsSuit};
+ghost use Rattle.sq_bridge.specs.Meaning.{CallsSuit, GivesFewRows, HasFewRows, HoldSorts};
 ghost use Rattle.sq_bridge.specs.Nodes.{has_item_outside, lists_too_many};
 ghost use Rattle.sq_bridge.specs.Rows.{listed};
 
@@ -18,4 +21,12 @@ pub fn operators_tell_what_is_outside()
     ensures places { (rows : List Row) → lists_too_many (listed rows) ≡ is_crowded rows }
     ensures items { (items : List Expression) (rows : List Row) → has_item_outside items (listed rows) ≡ list_any is_outside (flat_map (λ row. row) (selected items rows)) }
     ensures sums { (g : Groups) (rows : List Row) → CallsSuit rows g.calls → has_sum_outside g (listed rows) ≡ list_any is_outside (flat_map (tested_sums g.calls) (groups g.columns rows)) }
+{}
+
+/// Over relations of at most 2^61 rows, a query that fits and is not out of range gives at most 2^61 rows. So its rows are no place of
+/// their own where they are read.
+#[tactic(auto, using(crate::proofs::Counting::queries_few))]
+pub fn rows_of_queries_are_few()
+    ensures { (relations : List Contents) (kinds : List (List ColumnKind)) → HoldSorts relations kinds → AllByRecursion HasFewRows relations
+        → (q : Selection) → Fits kinds q → GivesFewRows relations q }
 {}
