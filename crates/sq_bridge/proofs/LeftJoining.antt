@@ -9,7 +9,7 @@ use Rattle.sq_algebra.specs.Listed.{first_of_each, or_one}
 use Rattle.sq_algebra.specs.Operators.{distinct, keep, meet, product}
 use Rattle.sq_algebra.specs.ZSet.{minus, plus}
 use Rattle.sq_algebra.proofs.PaddingLemmas.{of_list-padded, unmatched_is}
-use Rattle.sq_zset.proofs.RowOperators.{distinct-of_list, image-of_list-map, product-of_list}
+use Rattle.sq_zset.proofs.RowOperators.{distinct-of_list, image-of_list-map, keep-of_list, product-of_list}
 use Rattle.sq_expr.specs.declared.cond.Cond.{Cond}
 use Rattle.sq_expr.specs.declared.cond.Cond.TheVariants as condition
 use Rattle.sq_expr.specs.declared.expr.Expr.TheVariants as expr
@@ -21,7 +21,7 @@ use Rattle.sq_typed.specs.From.{all_hold, matches, or_padded, outer}
 use Rattle.sq_typed.specs.Laws.{AreOfWidth}
 use Rattle.sq_typed.proofs.AnswerLemmas.{all_first}
 use Rattle.sq_typed.proofs.Tests.{every}
-use Rattle.sq_bridge.specs.Joins.{first_columns, joined_on, left_joined, same_rows, unpaired}
+use Rattle.sq_bridge.specs.Joins.{first_columns, has_no_pair, joined_on, left_joined, same_rows, unpaired}
 use Rattle.sq_bridge.specs.Rows.{Rows, listed, padded_by, paired, projected}
 use Rattle.sq_bridge.proofs.Joining.{all_is, joins, loops_as, loops_on, one_pair, pair_if}
 use Rattle.sq_bridge.proofs.Lists.{all_columns, columns_below, filter_of_map, flat_map_agree, map_of_map, map_same}
@@ -139,3 +139,6 @@ module _ (w v : ℕ) (conds : List Cond) where
 
 pub left_on : (w v : ℕ) (conds : List Cond) (rows others : List Row) → AreOfWidth w rows → AreOfWidth v others → left_joined w v conds (listed rows) (listed others) ≡ listed (outer v conds others rows)
 left_on w v conds rows others hw hv = left_is w v conds rows others hw hv
+
+pub unpaired_on : (w v : ℕ) (conds : List Cond) (rows others : List Row) → AreOfWidth w rows → AreOfWidth v others → unpaired w (listed rows) (paired (joined_on w v conds) (listed rows) (listed others)) ≡ listed (filter (has_no_pair conds others) rows)
+unpaired_on w v conds rows others hw hv = unpaired_are w v conds rows others hw hv ∙ keep-of_list (has_no_pair conds others) rows

@@ -1,10 +1,11 @@
 //! Joins of lists of rows as operators over Z-sets.
 ghost use Rattle.std.specs.Prelude.{◌≡◌, ◌↔◌, ℕ, List, [], ◌∷◌, Some};
+ghost use Rattle.std.specs.List.{filter};
 ghost use Rattle.sq_algebra.specs.Operators.{meet};
 ghost use Rattle.sq_expr.specs.declared.cond.Cond.{Cond as Condition};
 ghost use Rattle.sq_typed.specs.From.{Row, inner, outer};
 ghost use Rattle.sq_typed.specs.Laws.{AreOfWidth};
-ghost use Rattle.sq_bridge.specs.Joins.{IsKeyOf, key_of, joined_on, left_joined, same_rows};
+ghost use Rattle.sq_bridge.specs.Joins.{IsKeyOf, has_no_pair, joined_on, key_of, left_joined, same_rows, unpaired_on};
 ghost use Rattle.sq_bridge.specs.Rows.{kept_on_all, listed, paired};
 
 /// The pairs of two lists on which some conditions are True, as a `Pairing` by the keys among the conditions.
@@ -36,4 +37,11 @@ pub fn same_rows_are_those_of_both()
 pub fn left_joins_are_pairs_and_the_rest()
     ensures { (w v : ℕ) (conds : List Condition) (rows others : List Row) → AreOfWidth w rows → AreOfWidth v others
         → left_joined w v conds (listed rows) (listed others) ≡ listed (outer v conds others rows) }
+{}
+
+/// What a left join pads are the rows of its left side that have no pair, each as often as it stands there.
+#[tactic(auto, using(crate::proofs::LeftJoining::unpaired_on))]
+pub fn rows_without_a_pair_are_left()
+    ensures { (w v : ℕ) (conds : List Condition) (rows others : List Row) → AreOfWidth w rows → AreOfWidth v others
+        → unpaired_on w v conds (listed rows) (listed others) ≡ listed (filter (has_no_pair conds others) rows) }
 {}
