@@ -1,10 +1,9 @@
 -- A query that is not out of range gives at most 2^61 rows.
-use Rattle.std.proofs.Common.{◌≡◌, ℕ, zero, suc, ◌^◌, ◌≤◌, List, [], ◌∷◌, ◌++◌, map, fold, length, get_or, Bool, true, false, ◌&&◌, ◌||◌, not, filter, Option, Some, None, refl, sym, ap, subst, ◌∙◌, arith, is_eq}
+use Rattle.std.proofs.Common.{◌≡◌, ℕ, zero, suc, ◌^◌, ◌≤◌, List, [], ◌∷◌, map, fold, length, get_or, Bool, true, false, ◌&&◌, ◌||◌, not, filter, Option, Some, None, sym, ap, subst, ◌∙◌, arith, is_eq}
 use Rattle.std.specs.List.{AllByRecursion, flat_map, list_all, list_any}
 use Rattle.std.proofs.lemmas.Bool.{ltb-false}
 use Rattle.sq_value.specs.Order.{row_cmp}
 use Rattle.sq_algebra.specs.Listed.{first_of_each}
-use Rattle.sq_ast.specs.declared.query.SetOp.{SetOp}
 use Rattle.sq_expr.specs.declared.cond.Cond.{Cond}
 use Rattle.sq_expr.specs.declared.expr.Expr.{Expr}
 use Rattle.sq_expr.specs.declared.expr.Kind.{Kind}
@@ -17,11 +16,9 @@ use Rattle.sq_typed.specs.declared.query.Origin.{Origin}
 use Rattle.sq_typed.specs.declared.query.Origin.TheVariants as origin
 use Rattle.sq_typed.specs.declared.query.Query.{Query}
 use Rattle.sq_typed.specs.declared.query.Query.TheVariants as query
-use Rattle.sq_typed.specs.declared.query.SetStep.{SetStep}
-use Rattle.sq_typed.specs.Blocks.{block_answer, group_row, groups, item_rows, selected, tested_calls, without_repeats}
+use Rattle.sq_typed.specs.Blocks.{block_answer, group_row, groups, item_rows, selected, without_repeats}
 use Rattle.sq_typed.specs.Fit.{Fits, Pairwise, are_matched, block_kinded, clauses_fit, has_some, item_row_kinds, joined_kinds, kinded, kinded_origin, kinded_source, may_group, may_suit, operation_kinded, sources_fit, suits}
 use Rattle.sq_typed.specs.From.{Row, Answer, Source, all_hold, kept, members_of, stages, widths_of}
-use Rattle.sq_typed.specs.Laws.{width_of_all}
 use Rattle.sq_typed.specs.Queries.{Contents, after_each, answer, chain_answer, has_range_fault, intersect_answer, intersect_rows, is_crowded, member_answer, origin_answer, relation_answer, set_rows, source_of_item}
 use Rattle.sq_typed.proofs.Equations.{answer-Block, answer-Chain, answer-Intersect, origin-Query, origin-Relation}
 use Rattle.sq_typed.proofs.FitEquations.{kinded-Block, kinded-Chain, kinded-Intersect, kinded-Query}
