@@ -39,11 +39,11 @@ first_shrinks : (rows : List Row) → length (first_of_each row_cmp rows) ≤ le
 first_shrinks [] = omega arith
 first_shrinks (row ∷ rows) = omega (arith, first_shrinks rows, length_filter (λ y. not (is_eq (row_cmp row y))) (first_of_each row_cmp rows))
 
-once_shrinks : (is_distinct : Bool) (rows : List Row) → length (without_repeats is_distinct rows) ≤ length rows
+pub once_shrinks : (is_distinct : Bool) (rows : List Row) → length (without_repeats is_distinct rows) ≤ length rows
 once_shrinks true rows = first_shrinks rows
 once_shrinks false rows = omega arith
 
-groups_few : (columns : List ℕ) (rows : List Row) → length rows ≤ 2 ^ 61 → length (groups columns rows) ≤ 2 ^ 61
+pub groups_few : (columns : List ℕ) (rows : List Row) → length rows ≤ 2 ^ 61 → length (groups columns rows) ≤ 2 ^ 61
 groups_few [] rows h = omega arith
 groups_few (c ∷ cs) rows h =
     omega (
@@ -54,7 +54,7 @@ groups_few (c ∷ cs) rows h =
       length_mapped (columns_of (c ∷ cs)) rows,
     )
 
-item_rows_few : (grouping : Option Grouping) (rows : List Row) → length rows ≤ 2 ^ 61 → length (item_rows grouping rows) ≤ 2 ^ 61
+pub item_rows_few : (grouping : Option Grouping) (rows : List Row) → length rows ≤ 2 ^ 61 → length (item_rows grouping rows) ≤ 2 ^ 61
 item_rows_few None rows h = h
 item_rows_few (Some g) rows h =
     omega (arith, length_filter (all_hold (members_of g.having)) (map (group_row g.calls) (groups g.columns rows)), length_mapped (group_row g.calls) (groups g.columns rows), groups_few g.columns rows h)

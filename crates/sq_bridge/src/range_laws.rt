@@ -1,10 +1,10 @@
 //! Numbers outside BIGINT and places with too many rows, on lists and as operators say it.
-ghost use Rattle.std.specs.Prelude.{◌≡◌, List};
+ghost use Rattle.std.specs.Prelude.{◌≡◌, ◌≤◌, ◌^◌, ℕ, Bool, List, Option, length};
 ghost use Rattle.std.specs.List.{AllByRecursion, flat_map, list_any};
 ghost use Rattle.sq_expr.specs.declared.expr.Expr.{Expr as Expression};
 ghost use Rattle.sq_expr.specs.declared.expr.Kind.{Kind as ColumnKind};
 ghost use Rattle.sq_typed.specs.Fit.{Fits};
-ghost use Rattle.sq_typed.specs.Blocks.{groups, selected};
+ghost use Rattle.sq_typed.specs.Blocks.{groups, item_rows, selected, without_repeats};
 ghost use Rattle.sq_typed.specs.From.{Row};
 ghost use Rattle.sq_typed.specs.Queries.{Contents, is_crowded, is_outside};
 ghost use Rattle.sq_typed.specs.declared.query.Query.{Query as Selection};
@@ -29,4 +29,13 @@ pub fn operators_tell_what_is_outside()
 pub fn rows_of_queries_are_few()
     ensures { (relations : List Contents) (kinds : List (List ColumnKind)) → HoldSorts relations kinds → AllByRecursion HasFewRows relations
         → (q : Selection) → Fits kinds q → GivesFewRows relations q }
+{}
+
+/// Behind at most 2^61 rows no more come on the way to those of the block: there are as few groups, and as few rows on which the items are
+/// computed; and rows without repeats are no more than with them.
+#[tactic(auto, using(crate::proofs::Counting::groups_few, crate::proofs::Counting::item_rows_few, crate::proofs::Counting::once_shrinks))]
+pub fn rows_stay_few()
+    ensures groups { (columns : List ℕ) (rows : List Row) → length rows ≤ 2 ^ 61 → length (groups columns rows) ≤ 2 ^ 61 }
+    ensures items { (grouping : Option Groups) (rows : List Row) → length rows ≤ 2 ^ 61 → length (item_rows grouping rows) ≤ 2 ^ 61 }
+    ensures once { (distinct : Bool) (rows : List Row) → length (without_repeats distinct rows) ≤ length rows }
 {}
