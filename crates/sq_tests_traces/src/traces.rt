@@ -23,8 +23,7 @@ fn check_entries(
 
 fn two_rows(alloc: Global) -> Result<Trace<i64>, ZFault> {
     let mut trace = Trace::new(alloc);
-    add(alloc, &mut trace, 1, 5, 2)?;
-    add(alloc, &mut trace, 1, 7, 1)?;
+    apply(alloc, &mut trace, &change_of_two(alloc, false, (2, 1))?)?;
     Ok(trace)
 }
 
