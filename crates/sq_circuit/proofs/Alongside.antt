@@ -28,7 +28,7 @@ got_front [] ys i low = absurd (omega arith)
 got_front (x ∷ xs) ys zero low = refl
 got_front (x ∷ xs) ys (suc i) low = got_front xs ys i (omega arith)
 
-got_next : {A : Type 0} (xs : List A) (x : A) (i : ℕ) → i ≡ length xs → slice_get (xs ++ x ∷ []) i ≡ Some x
+pub got_next : {A : Type 0} (xs : List A) (x : A) (i : ℕ) → i ≡ length xs → slice_get (xs ++ x ∷ []) i ≡ Some x
 got_next [] x zero is = refl
 got_next [] x (suc i) is = absurd (omega arith)
 got_next (y ∷ xs) x zero is = absurd (omega arith)

@@ -24,7 +24,7 @@ use Rattle.sq_ops.specs.declared.bilinear.Pairing.{Pairing}
 use Rattle.sq_ops.proofs.Ranges.{items_stored, none_of_each}
 use Rattle.sq_circuit.specs.Invariant.{HasKinds}
 use Rattle.sq_circuit.specs.Nodes.{Rows, paired}
-use Rattle.sq_circuit.specs.Plain.{ColumnKinds, ItemKind, ItemKinds, OfColumn, OfNumber, OfText, PaddedKinds}
+use Rattle.sq_circuit.specs.Gives.{ColumnKinds, ItemKind, ItemKinds, OfColumn, OfNumber, OfText, PaddedKinds}
 use Rattle.sq_circuit.proofs.Lower.{rows_of_image, rows_of_product}
 
 abbrev OfKinds : List Kind → List Value → Type 0

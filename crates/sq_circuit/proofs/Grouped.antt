@@ -32,7 +32,7 @@ use Rattle.sq_ops.specs.declared.aggregate.Call.{Call}
 use Rattle.sq_ops.proofs.Ranges.{none_of_each, none_outside}
 use Rattle.sq_circuit.specs.Invariant.{HasKinds, IsListed}
 use Rattle.sq_circuit.specs.Nodes.{Rows}
-use Rattle.sq_circuit.specs.Plain.{CallKind, CallKinds, ColumnKinds, GroupKinds}
+use Rattle.sq_circuit.specs.Gives.{CallKind, CallKinds, ColumnKinds, GroupKinds}
 use Rattle.sq_circuit.proofs.Following.{columns_kinds, none_is}
 use Rattle.sq_circuit.proofs.Lower.{rows_of_kept, rows_of_list}
 

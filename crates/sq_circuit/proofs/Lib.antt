@@ -2,7 +2,6 @@ pub mod Alongside
 pub mod Evaluating
 pub mod Owning
 pub mod Bounding
-pub mod Listing
 pub mod Smallest
 pub mod Lawful
 pub mod Growing
@@ -10,5 +9,8 @@ pub mod Lawfully
 pub mod Lower
 pub mod Following
 pub mod Grouped
-pub mod Plainly
+pub mod Fewer
+pub mod Listing
+pub mod Appending
+pub mod Making
 pub mod Composing

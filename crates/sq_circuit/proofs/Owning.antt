@@ -7,7 +7,7 @@ use Rattle.std.proofs.lemmas.Bool.{and_cases}
 use Rattle.std.proofs.lemmas.Option.{same_Some, slice_get_cases, slice_get_within, slice_get-get_or}
 use Rattle.sq_circuit.specs.Along.{least_below}
 use Rattle.sq_circuit.specs.Circuits.{are_sound, has_fault, is_sound, lists_too_many, has_number_outside, owner_at, owner_in, verdict, whole, whole_from}
-use Rattle.sq_circuit.specs.Invariant.{AreEarlier, IsEarlier, IsOwned, IsOwnedBelow, IsOwner, IsPart}
+use Rattle.sq_circuit.specs.Invariant.{AreEarlier, IsEarlier, IsOwned, IsOwnedBelow, IsOwner, IsPart, view_count}
 use Rattle.sq_circuit.specs.Nodes.{Rows, Source, Nowhere, Outer, Inner, left_source, right_source}
 use Rattle.sq_circuit.specs.declared.circuit.Part.{Part}
 use Rattle.sq_circuit.specs.declared.node.Node.{Node}
@@ -22,34 +22,34 @@ pub record IsTableNode (node : Node) (place : Bool) (owner : Option ℕ) : Type 
   pub no_place : place ≡ false
   pub no_owner : owner ≡ None
 
-pub record HasOwner (c : List Part) (node : Node) (owner : Option ℕ) : Type 0 where
+pub record HasOwner (views : ℕ) (c : List Part) (node : Node) (owner : Option ℕ) : Type 0 where
   pub view : ℕ
   pub is : owner ≡ Some view
-  pub owns : IsOwner c node view
+  pub owns : IsOwner views c node view
 
-pub owned : (c : List Part) (node : Node) (place : Bool) (owner : Option ℕ) → IsOwned c node place owner → IsTableNode node place owner ⊎ HasOwner c node owner
-owned c (Table t) place owner h = inl (record { table = t; is = refl; no_place = h.0; no_owner = h.1 })
-owned c (Linear i op) place None h = absurd h
-owned c (Linear i op) place (Some v) h = inr (record { view = v; is = refl; owns = h })
-owned c (Join l r op) place None h = absurd h
-owned c (Join l r op) place (Some v) h = inr (record { view = v; is = refl; owns = h })
-owned c (Distinct i) place None h = absurd h
-owned c (Distinct i) place (Some v) h = inr (record { view = v; is = refl; owns = h })
-owned c (Aggregate i spec) place None h = absurd h
-owned c (Aggregate i spec) place (Some v) h = inr (record { view = v; is = refl; owns = h })
-owned c (Plus l r) place None h = absurd h
-owned c (Plus l r) place (Some v) h = inr (record { view = v; is = refl; owns = h })
-owned c (Minus l r) place None h = absurd h
-owned c (Minus l r) place (Some v) h = inr (record { view = v; is = refl; owns = h })
-owned c (View i w) place None h = absurd h
-owned c (View i w) place (Some v) h = inr (record { view = v; is = refl; owns = h })
+pub owned : (views : ℕ) (c : List Part) (node : Node) (place : Bool) (owner : Option ℕ) → IsOwned views c node place owner → IsTableNode node place owner ⊎ HasOwner views c node owner
+owned views c (Table t) place owner h = inl (record { table = t; is = refl; no_place = h.0; no_owner = h.1 })
+owned views c (Linear i op) place None h = absurd h
+owned views c (Linear i op) place (Some v) h = inr (record { view = v; is = refl; owns = h })
+owned views c (Join l r op) place None h = absurd h
+owned views c (Join l r op) place (Some v) h = inr (record { view = v; is = refl; owns = h })
+owned views c (Distinct i) place None h = absurd h
+owned views c (Distinct i) place (Some v) h = inr (record { view = v; is = refl; owns = h })
+owned views c (Aggregate i spec) place None h = absurd h
+owned views c (Aggregate i spec) place (Some v) h = inr (record { view = v; is = refl; owns = h })
+owned views c (Plus l r) place None h = absurd h
+owned views c (Plus l r) place (Some v) h = inr (record { view = v; is = refl; owns = h })
+owned views c (Minus l r) place None h = absurd h
+owned views c (Minus l r) place (Some v) h = inr (record { view = v; is = refl; owns = h })
+owned views c (View i w) place None h = absurd h
+owned views c (View i w) place (Some v) h = inr (record { view = v; is = refl; owns = h })
 
 module _ (c : List Part) (parts : (i : ℕ) (p : Part) → slice_get c i ≡ Some p → IsPart c i p) where
   pub reads_earlier : AreEarlier c
   reads_earlier i p e = ((parts i p e).left_earlier, (parts i p e).right_earlier)
 
-  pub part_owned : (i : ℕ) (p : Part) → slice_get c i ≡ Some p → IsTableNode p.node p.place p.owner ⊎ HasOwner c p.node p.owner
-  part_owned i p e = owned c p.node p.place p.owner (parts i p e).owned
+  pub part_owned : (i : ℕ) (p : Part) → slice_get c i ≡ Some p → IsTableNode p.node p.place p.owner ⊎ HasOwner (view_count c) c p.node p.owner
+  part_owned i p e = owned (view_count c) c p.node p.place p.owner (parts i p e).owned
 
   module _ (tables : List Rows) where
     -- a table has no fault, and is sound
@@ -108,7 +108,7 @@ module _ (c : List Part) (parts : (i : ℕ) (p : Part) → slice_get c i ≡ Som
         short : j < length c
         short = omega arith
 
-        has : (q : Part) → slice_get c j ≡ Some q → IsTableNode q.node q.place q.owner ⊎ HasOwner c q.node q.owner → Blamed v
+        has : (q : Part) → slice_get c j ≡ Some q → IsTableNode q.node q.place q.owner ⊎ HasOwner (view_count c) c q.node q.owner → Blamed v
         has q e (inl t) = absurd (let sound = sym h ∙ table_sound j q e t in cc)
         has q e (inr o) = weaker o.view v (owners o.view (ap owner_in e ∙ o.is)) (rest j o.view low (record { low = short; broken = h; owner = ap owner_in e ∙ o.is }))
 
@@ -116,11 +116,11 @@ module _ (c : List Part) (parts : (i : ℕ) (p : Part) → slice_get c i ≡ Som
     blame_step i w u earlier = at (part_at i w u.owner)
       where
         -- the owner of a node with an owner
-        owns : (p : Part) → slice_get c i ≡ Some p → IsTableNode p.node p.place p.owner ⊎ HasOwner c p.node p.owner → IsOwner c p.node w
+        owns : (p : Part) → slice_get c i ≡ Some p → IsTableNode p.node p.place p.owner ⊎ HasOwner (view_count c) c p.node p.owner → IsOwner (view_count c) c p.node w
         owns p e (inl t) = absurd (let same = sym u.owner ∙ ap owner_in e ∙ t.no_owner in cc)
-        owns p e (inr o) = subst (λ v. IsOwner c p.node v) (same_Some o.view w (sym o.is ∙ sym (ap owner_in e) ∙ u.owner)) o.owns
+        owns p e (inr o) = subst (λ v. IsOwner (view_count c) c p.node v) (same_Some o.view w (sym o.is ∙ sym (ap owner_in e) ∙ u.owner)) o.owns
 
-        step : (p : Part) → slice_get c i ≡ Some p → IsOwner c p.node w
+        step : (p : Part) → slice_get c i ≡ Some p → IsOwner (view_count c) c p.node w
             → (has_fault c tables i ≡ true) ⊎ ((source_sound c reads_earlier tables (left_source p.node) ≡ false) ⊎ (source_sound c reads_earlier tables (right_source p.node) ≡ false)) → Blamed w
         step p e o (inl fault) = record { node = i; low = u.low; fault = fault; view = w; owner = u.owner; not_above = omega arith }
         step p e o (inr (inl left)) = unsound_source p (left_source p.node) i w u.low (parts i p e).left_earlier o.left left earlier
@@ -176,7 +176,7 @@ module _ (c : List Part) (parts : (i : ℕ) (p : Part) → slice_get c i ≡ Som
     pub all_sound : verdict c tables ≡ None → (i : ℕ) (p : Part) → slice_get c i ≡ Some p → is_sound c tables i ≡ true
     all_sound clear i p e = step (is_sound c tables i) refl (part_owned i p e)
       where
-        step : (b : Bool) → is_sound c tables i ≡ b → IsTableNode p.node p.place p.owner ⊎ HasOwner c p.node p.owner → is_sound c tables i ≡ true
+        step : (b : Bool) → is_sound c tables i ≡ b → IsTableNode p.node p.place p.owner ⊎ HasOwner (view_count c) c p.node p.owner → is_sound c tables i ≡ true
         step true s t = s
         step false s (inl t) = table_sound i p e t
         step false s (inr o) =

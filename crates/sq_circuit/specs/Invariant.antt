@@ -60,20 +60,22 @@ table_count c = length (filter (λ p. is_table p.node) c)
 abbrev pub view_count : List Part → ℕ
 view_count c = length (filter (λ p. is_view p.node) c)
 
--- a node that is neither table nor view stands between the tables and the views
-abbrev pub IsBetween : List Part → ℕ → Type 0
-IsBetween c i = (table_count c ≤ i) × (i + view_count c < length c)
+-- in a circuit of so many nodes, of which so many are views
+module _ (nodes views : ℕ) (c : List Part) (i : ℕ) where
+  -- a node that is neither table nor view stands between the tables and the views
+  abbrev pub IsBetween : Type 0
+  IsBetween = (table_count c ≤ i) × (i + views < nodes)
 
--- table t stands at t, and view v so far behind all nodes that are no views
-abbrev pub IsInOrder : List Part → ℕ → Node → Type 0
-IsInOrder c i (Table t) = (i ≡ t) × (t < table_count c)
-IsInOrder c i (Linear j op) = IsBetween c i
-IsInOrder c i (Join l r op) = IsBetween c i
-IsInOrder c i (Distinct j) = IsBetween c i
-IsInOrder c i (Aggregate j spec) = IsBetween c i
-IsInOrder c i (Plus l r) = IsBetween c i
-IsInOrder c i (Minus l r) = IsBetween c i
-IsInOrder c i (View j v) = (i + view_count c ≡ length c + v) × (v < view_count c)
+  -- table t stands at t, and view v so far behind all nodes that are no views
+  abbrev pub IsInOrder : Node → Type 0
+  IsInOrder (Table t) = (i ≡ t) × (t < table_count c)
+  IsInOrder (Linear j op) = IsBetween
+  IsInOrder (Join l r op) = IsBetween
+  IsInOrder (Distinct j) = IsBetween
+  IsInOrder (Aggregate j spec) = IsBetween
+  IsInOrder (Plus l r) = IsBetween
+  IsInOrder (Minus l r) = IsBetween
+  IsInOrder (View j v) = (i + views ≡ nodes + v) × (v < views)
 
 -- ---- kinds
 -- the operator takes rows of the kinds that it reads
@@ -111,26 +113,30 @@ IsOwnedBelow c v Nowhere = ⊤
 IsOwnedBelow c v (Outer t) = ⊤
 IsOwnedBelow c v (Inner j) = (w : ℕ) → owner_at c j ≡ Some w → w ≤ v
 
--- an owner that is a view of the circuit, and not below the owners of what the node reads
-pub record IsOwner (c : List Part) (node : Node) (v : ℕ) : Type 0 where
-  pub is_view : v < view_count c
+-- an owner that is one of so many views, and not below the owners of what the node reads
+pub record IsOwner (views : ℕ) (c : List Part) (node : Node) (v : ℕ) : Type 0 where
+  pub is_view : v < views
   pub left : IsOwnedBelow c v (left_source node)
   pub right : IsOwnedBelow c v (right_source node)
 
 -- a table is no place and has no owner, and every other node has one
-abbrev pub IsOwned : List Part → Node → Bool → Option ℕ → Type 0
-IsOwned c (Table t) place owner = (place ≡ false) × (owner ≡ None)
-IsOwned c node place None = ⊥
-IsOwned c node place (Some v) = IsOwner c node v
+abbrev pub IsOwned : ℕ → List Part → Node → Bool → Option ℕ → Type 0
+IsOwned views c (Table t) place owner = (place ≡ false) × (owner ≡ None)
+IsOwned views c node place None = ⊥
+IsOwned views c node place (Some v) = IsOwner views c node v
 
 -- ---- parts
-pub record IsPart (c : List Part) (i : ℕ) (p : Part) : Type 0 where
+-- a part of a circuit of so many nodes and views, which begins with the parts c
+pub record IsPartOf (nodes views : ℕ) (c : List Part) (i : ℕ) (p : Part) : Type 0 where
   pub left_earlier : IsEarlier i (left_source p.node)
   pub right_earlier : IsEarlier i (right_source p.node)
-  pub in_order : IsInOrder c i p.node
+  pub in_order : IsInOrder nodes views c i p.node
   pub takes : TakesKinds p.node (kinds_at c)
   pub width : HasWidth p.node (kinds_at c) (length p.kinds)
-  pub owned : IsOwned c p.node p.place p.owner
+  pub owned : IsOwned views c p.node p.place p.owner
+
+abbrev pub IsPart : List Part → ℕ → Part → Type 0
+IsPart c i p = IsPartOf (length c) (view_count c) c i p
 
 -- ---- bounds
 -- rows that a list of at most 2^61 rows has

@@ -6,5 +6,7 @@ pub mod Invariant
 pub mod NodeLaws
 pub mod Costs
 pub mod Verdicts
-pub mod Plain
+pub mod Gives
+pub mod Listed
+pub mod Begun
 pub mod Pieces

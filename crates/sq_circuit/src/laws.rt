@@ -7,10 +7,10 @@ ghost use Rattle.sq_zset.specs.Range.{IsInRange};
 ghost use Rattle.sq_circuit.specs.Along.{least_below};
 ghost use Rattle.sq_circuit.specs.Circuits.{has_fault, is_sound, owner_at, verdict, whole};
 ghost use Rattle.sq_circuit.specs.Invariant.{AreEarlier, HasKinds, IsCircuit, IsPart, IsSoundAt, table_and_view};
+ghost use Rattle.sq_circuit.specs.Listed.{IsListedPart};
 ghost use Rattle.sq_circuit.specs.NodeLaws.{IsLawful};
 ghost use Rattle.sq_circuit.specs.Nodes.{Rows, left_source, right_source};
 ghost use Rattle.sq_circuit.specs.Pieces.{AddUpToChanges, AreChanged};
-ghost use Rattle.sq_circuit.specs.Plain.{IsPlain};
 ghost use Rattle.sq_circuit.specs.Verdicts.{IsAtMost, IsMadeOfReads, IsToBlame, source_sound, unsound_owner};
 ghost use Rattle.sq_circuit.specs.declared.circuit.Part.{Part as Known};
 ghost use Rattle.sq_circuit.specs.declared.node.Node.{Node as Operator};
@@ -63,10 +63,10 @@ pub fn verdicts_are_least_owners()
     ensures unsound { (c : List Known) → IsCircuit c → (tables : List Rows) → verdict c tables ≡ least_below (unsound_owner c tables) (length c) }
 {}
 
-/// Parts that stand where they may, and of which every node is a place but for tables, differences and views, are a
-/// circuit, if only views and distincts read differences and views, and each part gives its kinds.
-pub fn plain_parts_are_a_circuit()
-    ensures { (c : List Known) → length c < 2 ^ 32 → ((i : ℕ) (p : Known) → slice_get c i ≡ Some p → IsPart c i p) → IsPlain c → IsCircuit c }
+/// Parts that stand where they may and give their kinds are a circuit, if the sound nodes that others read as lists are lists:
+/// what is left to show of a difference, of a join that is no place, and of a sum that is none (`IsListedPart`).
+pub fn listed_parts_are_a_circuit()
+    ensures { (c : List Known) → length c < 2 ^ 32 → ((i : ℕ) (p : Known) → slice_get c i ≡ Some p → IsPart c i p) → ((i : ℕ) (p : Known) → slice_get c i ≡ Some p → IsListedPart c i p) → IsCircuit c }
 {}
 
 /// A table of any kinds and a view of it are a circuit.

@@ -11,14 +11,15 @@ use Rattle.sq_expr.specs.declared.expr.Kind.TheVariants.{Bigint, Text}
 use Rattle.sq_expr.specs.declared.typing.Sort.TheVariants.{Numeric}
 use Rattle.sq_expr.proofs.Kept.{conjunction_suits}
 use Rattle.sq_circuit.specs.declared.node.LinearOp.TheVariants.{Keep, Project, Pad}
-use Rattle.sq_circuit.specs.Circuits.{kinds_at, node_at}
+use Rattle.sq_circuit.specs.Circuits.{kinds_at, whole}
+use Rattle.sq_circuit.specs.Gives.{GivesKinds, OfNumber}
 use Rattle.sq_circuit.specs.Invariant.{HasWidth, IsBetween, IsEarlier, IsInOrder, IsOwned, IsPart, TakesKinds, is_table, is_view, table_count, view_count}
-use Rattle.sq_circuit.specs.Nodes.{left_source, right_source}
-use Rattle.sq_circuit.specs.Plain.{GivesKinds, IsPlainNode, IsPlainPart, OfNumber}
+use Rattle.sq_circuit.specs.Listed.{AsksLists, IsListedPart, IsShort}
+use Rattle.sq_circuit.specs.Nodes.{Rows, left_source, right_source}
 use Rattle.sq_circuit.specs.declared.circuit.Part.{Part}
 use Rattle.sq_circuit.specs.declared.node.Node.{Node}
 use Rattle.sq_circuit.specs.declared.node.Node.TheVariants.{Table, Linear, Join, Distinct, Aggregate, Plus, Minus}
-use Rattle.sq_circuit.proofs.Plainly.{plain_circuit}
+use Rattle.sq_circuit.proofs.Listing.{listed_circuit}
 use Rattle.sq_tests_circuits.specs.Small.{IsSample, by_number, inner, numbers, small, table, totals, two_sums, view}
 
 -- what holds of each part of a list, by its number
@@ -31,15 +32,15 @@ each P [] h i p e = absurd (cc e)
 each P (q ∷ c) h zero p e = subst (λ r. P 0 r) (same_Some q p e) h.0
 each P (q ∷ c) h (suc i) p e = each (λ j. P (suc j)) c h.1 i p e
 
--- a part that may stand there, is plain, and is a table of one BIGINT if it is one
+-- a part that may stand there, asks for lists alone, and is a table of one BIGINT if it is one
 record Fine (c : List Part) (i : ℕ) (p : Part) : Type 0 where
   part : IsPart c i p
-  plain : IsPlainPart c p
+  listed : IsListedPart c i p
   kinds : (t : ℕ) → p.node ≡ Table t → p.kinds ≡ numbers
 
 sample : (c : List Part) → length c < 2 ^ 32 → table_count c ≡ 2 → EachPart (Fine c) c → IsSample c
 sample c few count fine = record {
-  circuit = plain_circuit c few (λ i p e. (each (Fine c) c fine i p e).part) (λ i p e. (each (Fine c) c fine i p e).plain);
+  circuit = listed_circuit c few (λ i p e. (each (Fine c) c fine i p e).part) (λ i p e. (each (Fine c) c fine i p e).listed);
   tables = record { count = count; each = λ i p t e is. (each (Fine c) c fine i p e).kinds t is };
 }
 
@@ -48,12 +49,14 @@ sample c few count fine = record {
 pub record Fits (node : Node) (own : List Kind) (place : Bool) : Type 0 where
   pub left : IsEarlier 2 (left_source node)
   pub right : IsEarlier 2 (right_source node)
-  pub order : IsBetween (small node own place) 2 → IsInOrder (small node own place) 2 node
+  pub order : IsBetween (length (small node own place)) (view_count (small node own place)) (small node own place) 2
+      → IsInOrder (length (small node own place)) (view_count (small node own place)) (small node own place) 2 node
   pub takes : TakesKinds node (kinds_at (small node own place))
   pub width : HasWidth node (kinds_at (small node own place)) (length own)
-  pub owned : IsOwned (small node own place) node place (Some 0)
+  pub owned : IsOwned (view_count (small node own place)) (small node own place) node place (Some 0)
   pub gives : GivesKinds node (kinds_at (small node own place)) own
-  pub plain : IsPlainNode (node_at (small node own place)) node place
+  pub asks : AsksLists (small node own place) node place
+  pub short : (z : Rows) → IsShort node place z
   pub no_table : is_table node ≡ false
   pub no_view : is_view node ≡ false
 
@@ -70,7 +73,7 @@ module _ (node : Node) (own : List Kind) (place : Bool) (fits : Fits node own pl
   first_table : (t : ℕ) → t < 2 → Fine parts t (table t)
   first_table t low = record {
     part = record { left_earlier = tt; right_earlier = tt; in_order = (refl, let many = tables in omega arith); takes = tt; width = tt; owned = (refl, refl) };
-    plain = record { gives = tt; plain = tt };
+    listed = record { gives = tt; asks = tt; short = λ _ _. tt };
     kinds = λ _ _. refl;
   }
 
@@ -89,7 +92,7 @@ module _ (node : Node) (own : List Kind) (place : Bool) (fits : Fits node own pl
             width = fits.width;
             owned = fits.owned;
           };
-          plain = record { gives = fits.gives; plain = fits.plain };
+          listed = record { gives = fits.gives; asks = fits.asks; short = λ tables _. fits.short (whole parts tables 2) };
           kinds = λ t is. absurd (let never = sym fits.no_table ∙ ap is_table is in cc);
         },
         (
@@ -102,7 +105,7 @@ module _ (node : Node) (own : List Kind) (place : Bool) (fits : Fits node own pl
               width = refl;
               owned = record { is_view = let one = views in omega arith; left = λ w e. let same : 0 ≡ w = same_Some 0 w e in omega arith; right = tt };
             };
-            plain = record { gives = refl; plain = refl };
+            listed = record { gives = refl; asks = λ e. absurd (cc e); short = λ _ _. tt };
             kinds = λ t is. absurd (cc is);
           },
           tt,
@@ -121,7 +124,8 @@ keeps cond h = small_sample _ numbers true (record {
   width = refl;
   owned = record { is_view = omega arith; left = λ w e. absurd (cc e); right = tt };
   gives = refl;
-  plain = (refl, tt);
+  asks = λ e. absurd (cc e);
+  short = λ _. tt;
   no_table = refl;
   no_view = refl;
 })
@@ -135,7 +139,8 @@ projects e h sort = small_sample _ numbers true (record {
   width = refl;
   owned = record { is_view = omega arith; left = λ w e. absurd (cc e); right = tt };
   gives = (OfNumber sort refl, tt);
-  plain = (refl, tt);
+  asks = λ e. absurd (cc e);
+  short = λ _. tt;
   no_table = refl;
   no_view = refl;
 })
@@ -149,7 +154,8 @@ pads = small_sample _ (Bigint ∷ Text ∷ []) true (record {
   width = refl;
   owned = record { is_view = omega arith; left = λ w e. absurd (cc e); right = tt };
   gives = record { more = Text ∷ []; is = refl; many = refl };
-  plain = (refl, tt);
+  asks = λ e. absurd (cc e);
+  short = λ _. tt;
   no_table = refl;
   no_view = refl;
 })
@@ -163,7 +169,8 @@ joins = small_sample _ (Bigint ∷ Bigint ∷ []) true (record {
   width = refl;
   owned = record { is_view = omega arith; left = λ w e. absurd (cc e); right = λ w e. absurd (cc e) };
   gives = (refl, (refl, tt));
-  plain = (refl, tt, tt);
+  asks = (λ e. absurd (cc e), λ e. absurd (cc e));
+  short = λ _ e. absurd (cc e);
   no_table = refl;
   no_view = refl;
 })
@@ -177,7 +184,8 @@ distincts = small_sample _ numbers true (record {
   width = refl;
   owned = record { is_view = omega arith; left = λ w e. absurd (cc e); right = tt };
   gives = refl;
-  plain = refl;
+  asks = λ e. absurd (cc e);
+  short = λ _. tt;
   no_table = refl;
   no_view = refl;
 })
@@ -191,7 +199,8 @@ aggregates = small_sample _ (Bigint ∷ Bigint ∷ []) true (record {
   width = refl;
   owned = record { is_view = omega arith; left = λ w e. absurd (cc e); right = tt };
   gives = record { keys = []; values = Bigint ∷ Bigint ∷ []; is = refl; of_keys = tt; of_values = (refl, (refl, tt)) };
-  plain = (refl, tt);
+  asks = λ e. absurd (cc e);
+  short = λ _. tt;
   no_table = refl;
   no_view = refl;
 })
@@ -205,7 +214,8 @@ sums = small_sample _ numbers true (record {
   width = (refl, refl);
   owned = record { is_view = omega arith; left = λ w e. absurd (cc e); right = λ w e. absurd (cc e) };
   gives = (refl, refl);
-  plain = (refl, tt, tt);
+  asks = (λ e. absurd (cc e), λ e. absurd (cc e));
+  short = λ _. tt;
   no_table = refl;
   no_view = refl;
 })
@@ -219,7 +229,8 @@ differences = small_sample _ numbers false (record {
   width = (refl, refl);
   owned = record { is_view = omega arith; left = λ w e. absurd (cc e); right = λ w e. absurd (cc e) };
   gives = (refl, refl);
-  plain = (refl, tt, tt);
+  asks = (λ e. absurd (cc e), λ e. absurd (cc e));
+  short = λ _ e. absurd (cc e);
   no_table = refl;
   no_view = refl;
 })
@@ -228,7 +239,7 @@ differences = small_sample _ numbers false (record {
 two_tables : (t : ℕ) → t < 2 → Fine two_sums t (table t)
 two_tables t low = record {
   part = record { left_earlier = tt; right_earlier = tt; in_order = (refl, low); takes = tt; width = tt; owned = (refl, refl) };
-  plain = record { gives = tt; plain = tt };
+  listed = record { gives = tt; asks = tt; short = λ _ _. tt };
   kinds = λ _ _. refl;
 }
 
@@ -240,25 +251,25 @@ two_sums_sample = sample two_sums (omega arith) refl (
     (
       record {
         part = record { left_earlier = omega arith; right_earlier = omega arith; in_order = (omega arith, omega arith); takes = tt; width = (refl, refl); owned = record { is_view = omega arith; left = λ w e. absurd (cc e); right = λ w e. absurd (cc e) } };
-        plain = record { gives = (refl, refl); plain = (refl, tt, tt) };
+        listed = record { gives = (refl, refl); asks = (λ e. absurd (cc e), λ e. absurd (cc e)); short = λ _ _. tt };
         kinds = λ t is. absurd (cc is);
       },
       (
         record {
           part = record { left_earlier = omega arith; right_earlier = omega arith; in_order = (omega arith, omega arith); takes = tt; width = (refl, refl); owned = record { is_view = omega arith; left = λ w e. absurd (cc e); right = λ w e. absurd (cc e) } };
-          plain = record { gives = (refl, refl); plain = (refl, tt, tt) };
+          listed = record { gives = (refl, refl); asks = (λ e. absurd (cc e), λ e. absurd (cc e)); short = λ _ _. tt };
           kinds = λ t is. absurd (cc is);
         },
         (
           record {
             part = record { left_earlier = omega arith; right_earlier = tt; in_order = (refl, omega arith); takes = tt; width = refl; owned = record { is_view = omega arith; left = λ w e. let same : 0 ≡ w = same_Some 0 w e in omega arith; right = tt } };
-            plain = record { gives = refl; plain = refl };
+            listed = record { gives = refl; asks = λ e. absurd (cc e); short = λ _ _. tt };
             kinds = λ t is. absurd (cc is);
           },
           (
             record {
               part = record { left_earlier = omega arith; right_earlier = tt; in_order = (refl, omega arith); takes = tt; width = refl; owned = record { is_view = omega arith; left = λ w e. let same : 1 ≡ w = same_Some 1 w e in omega arith; right = tt } };
-              plain = record { gives = refl; plain = refl };
+              listed = record { gives = refl; asks = λ e. absurd (cc e); short = λ _ _. tt };
               kinds = λ t is. absurd (cc is);
             },
             tt,

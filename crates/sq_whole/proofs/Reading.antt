@@ -11,7 +11,7 @@ use Rattle.sq_ops.specs.declared.aggregate.AggSpec.{AggSpec}
 use Rattle.sq_ops.specs.declared.bilinear.Pairing.{Pairing}
 use Rattle.sq_circuit.specs.Along.{each_below}
 use Rattle.sq_circuit.specs.Circuits.{has_number_outside, kinds_at, kinds_in, known, node_at}
-use Rattle.sq_circuit.specs.Invariant.{HasKinds, IsBounded, IsCircuit, IsEarlier, IsGood, IsInOrder, IsListed, NeedsListed, TakesKinds}
+use Rattle.sq_circuit.specs.Invariant.{HasKinds, IsBounded, IsCircuit, IsEarlier, IsGood, IsInOrder, IsListed, NeedsListed, TakesKinds, view_count}
 use Rattle.sq_circuit.specs.LinearOps.{SuitsOp}
 use Rattle.sq_circuit.specs.Nodes.{Rows, Source, Inner, left_source, operator, right_source}
 use Rattle.sq_circuit.specs.declared.circuit.Part.{Part}
@@ -97,7 +97,7 @@ module _ (c : List Part) (tables : List Rows) (values : List (Option Rows)) (i :
   pub table_bound : (t : ℕ) → Here c tables values i (Table t) → t < length tables
   table_bound t here =
       let found = part_of_node c i (Table t) here.at in
-      let order : IsInOrder c i (Table t) = subst (λ m. IsInOrder c i m) found.node (here.circuit.parts i found.part found.at).in_order in
+      let order : IsInOrder (length c) (view_count c) c i (Table t) = subst (λ m. IsInOrder (length c) (view_count c) c i m) found.node (here.circuit.parts i found.part found.at).in_order in
       let low = order.1 in
       let many = here.good.count in
       omega arith
