@@ -1,5 +1,5 @@
 -- Parts in a longer list: what they read, their order, kinds and owners stay.
-use Rattle.std.proofs.Common.{◌≡◌, ℕ, zero, suc, ◌+◌, ◌<◌, ◌≤◌, Bool, true, false, cond, List, [], ◌∷◌, ◌++◌, length, Some, None, refl, sym, ap, ap₂, subst, ◌∙◌, arith, length-append}
+use Rattle.std.proofs.Common.{◌≡◌, ℕ, zero, suc, ◌+◌, ◌<◌, ◌≤◌, Bool, true, false, cond, List, [], ◌∷◌, ◌++◌, length, Some, None, refl, sym, ap, subst, ◌∙◌, arith, length-append}
 use Rattle.std.specs.Prelude.{Option, filter, slice_get}
 use mathlib.Core.Logic.{◌⊎◌, inl, inr}
 use Rattle.std.proofs.lemmas.List.Elements.{filter-append}
@@ -9,7 +9,7 @@ use Rattle.sq_ops.specs.JoinLaws.{SuitsPairing}
 use Rattle.sq_ops.specs.Aggregates.{SuitsSpec}
 use Rattle.sq_circuit.specs.Circuits.{kinds_at, kinds_in, owner_at, owner_in}
 use Rattle.sq_circuit.specs.Gives.{ColumnKinds, GivesKinds, GroupKinds, ItemKinds, PaddedKinds}
-use Rattle.sq_circuit.specs.Invariant.{HasWidth, IsBetween, IsEarlier, IsInOrder, IsOwned, IsOwnedBelow, IsOwner, TakesKinds, is_table, is_view, table_count, view_count, width_of}
+use Rattle.sq_circuit.specs.Invariant.{HasWidth, IsBetween, IsEarlier, IsInOrder, IsOwned, IsOwnedBelow, IsOwner, TakesKinds, is_table, is_view, table_count, width_of}
 use Rattle.sq_circuit.specs.LinearOps.{SuitsOp}
 use Rattle.sq_circuit.specs.Nodes.{Source, Nowhere, Outer, Inner, left_source, right_source}
 use Rattle.sq_circuit.specs.declared.circuit.Part.{Part}

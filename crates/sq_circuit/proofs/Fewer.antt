@@ -1,7 +1,7 @@
 -- Operators on one side give no more rows than they read, but for the one row of a global aggregate.
-use Rattle.std.proofs.Common.{◌≡◌, ℕ, zero, suc, ◌≤◌, ◌^◌, Bool, true, false, cond, ◌&&◌, T, List, [], ◌∷◌, map, length, ℤ, pos, negsuc, ◌≤ℤ◌, unsigned_abs, is_eq, Less, Equal, Greater, refl, sym, ap, subst, ◌∙◌, arith}
+use Rattle.std.proofs.Common.{◌≡◌, zero, suc, ◌≤◌, ◌^◌, Bool, true, false, cond, ◌&&◌, T, List, [], ◌∷◌, map, length, ℤ, pos, negsuc, unsigned_abs, Less, Equal, Greater, refl, arith}
 use Rattle.std.specs.List.{list_all}
-use Rattle.std.specs.Ordering.{int_eq, match_ordering}
+use Rattle.std.specs.Ordering.{match_ordering}
 use Rattle.std.specs.Prelude.{int_lt}
 use Rattle.std.proofs.lemmas.List.Sums.{sum_by-cons}
 use Rattle.std.proofs.lemmas.List.{length-map}
@@ -13,7 +13,7 @@ use Rattle.sq_expr.specs.declared.cond.Cond.{Cond}
 use Rattle.sq_algebra.specs.Keyed.{keys_of}
 use Rattle.sq_algebra.specs.Listed.{in_order, place}
 use Rattle.sq_algebra.specs.Operators.{IsNonNegative, distinct, image}
-use Rattle.sq_algebra.specs.ZSet.{entries, entries_canonical, is_nonzero, total}
+use Rattle.sq_algebra.specs.ZSet.{entries, entries_canonical, is_nonzero}
 use Rattle.sq_algebra.proofs.NonNegativeLemmas.{nonnegative-distinct, nonnegative-image, nonnegative-of_list}
 use Rattle.sq_algebra.proofs.PairLemmas.{nonzero_from}
 use Rattle.sq_algebra.proofs.Weights.{nonzero_weights_from}

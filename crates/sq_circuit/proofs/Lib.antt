@@ -13,4 +13,6 @@ pub mod Fewer
 pub mod Listing
 pub mod Appending
 pub mod Making
+pub mod Ending
+pub mod Judging
 pub mod Composing

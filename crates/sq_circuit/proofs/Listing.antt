@@ -1,6 +1,6 @@
 -- Parts that stand where they may, and of which each sound node is a list of rows or made of such, are a circuit.
-use Rattle.std.proofs.Common.{◌≡◌, ℕ, zero, suc, ◌<◌, ◌≤◌, ◌^◌, Bool, true, false, not, ◌&&◌, ◌||◌, List, [], ◌∷◌, length, get_or, ℤ, pos, negsuc, ◌+ℤ◌, ◌-ℤ◌, ◌≤ℤ◌, unsigned_abs, Some, None, refl, sym, ap, ap₂, subst, ◌∙◌, arith}
-use Rattle.std.specs.Prelude.{Option, int_lt, slice_get}
+use Rattle.std.proofs.Common.{◌≡◌, ℕ, zero, suc, ◌<◌, ◌≤◌, ◌^◌, Bool, true, false, not, ◌&&◌, ◌||◌, List, [], ◌∷◌, length, get_or, ℤ, pos, negsuc, ◌+ℤ◌, ◌-ℤ◌, ◌≤ℤ◌, unsigned_abs, Some, refl, sym, ap, ap₂, subst, ◌∙◌, arith}
+use Rattle.std.specs.Prelude.{int_lt, slice_get}
 use mathlib.Core.Logic.{inl, inr}
 use Rattle.std.proofs.lemmas.Bool.{and_parts, ltb-false}
 use Rattle.std.proofs.lemmas.Option.{slice_get_within, slice_get-get_or}
@@ -32,7 +32,7 @@ use Rattle.sq_circuit.specs.declared.node.Node.{Node}
 use Rattle.sq_circuit.specs.declared.node.Node.TheVariants.{Table, Linear, Join, Distinct, Aggregate, Plus, Minus, View}
 use Rattle.sq_circuit.proofs.Bounding.{listed_few}
 use Rattle.sq_circuit.proofs.Evaluating.{fault_at, sound_at, whole_at}
-use Rattle.sq_circuit.proofs.Fewer.{aggregated_listed, distinct_listed, distinct_mass, image_listed, kept_few}
+use Rattle.sq_circuit.proofs.Fewer.{aggregated_listed, distinct_listed, image_listed, kept_few}
 use Rattle.sq_circuit.proofs.Following.{join_follows, keep_follows, pad_follows, project_follows}
 use Rattle.sq_circuit.proofs.Grouped.{aggregate_follows}
 use Rattle.sq_circuit.proofs.Lower.{rows_of_difference, rows_of_distinct, rows_of_sum}

@@ -1,20 +1,18 @@
 -- A circuit in the making stays one while nodes are appended, and is a circuit once its views are.
-use Rattle.std.proofs.Common.{◌≡◌, ℕ, zero, suc, ◌+◌, ◌<◌, ◌≤◌, ◌^◌, Bool, true, false, not, ◌&&◌, ◌||◌, cond, List, [], ◌∷◌, ◌++◌, length, Some, None, refl, sym, ap, ap₂, subst, ◌∙◌, arith, length-append}
+use Rattle.std.proofs.Common.{◌≡◌, ℕ, suc, ◌+◌, ◌<◌, ◌≤◌, Bool, true, false, not, ◌&&◌, ◌||◌, cond, List, [], ◌∷◌, ◌++◌, length, Some, None, refl, sym, ap, ap₂, subst, ◌∙◌, arith, length-append}
 use Rattle.std.specs.Prelude.{IsTrue, Option, slice_get}
 use mathlib.Core.Logic.{◌⊎◌, inl, inr}
 use Rattle.std.proofs.lemmas.Bool.{and_parts}
 use Rattle.std.proofs.lemmas.Option.{same_Some, slice_get_within}
-use Rattle.sq_value.specs.declared.value.Value.{Value}
 use Rattle.sq_expr.specs.declared.expr.Expr.{Expr}
 use Rattle.sq_expr.specs.declared.expr.Kind.{Kind}
-use Rattle.sq_ops.specs.Aggregates.{SuitsSpec, call_suits, group_columns, spec_suits}
+use Rattle.sq_ops.specs.Aggregates.{group_columns}
 use Rattle.sq_ops.specs.Wholes.{has_no_values}
-use Rattle.sq_ops.specs.declared.aggregate.AggSpec.{AggSpec}
 use Rattle.sq_ops.specs.declared.aggregate.Call.{Call}
-use Rattle.sq_circuit.specs.Begun.{AreTables, AreViews, IsBegun, IsNext, IsTablePart, IsViewOf, ReadsThese, is_faulty, is_fine, made_of}
-use Rattle.sq_circuit.specs.Circuits.{are_sound, fault_of, has_fault, is_sound, kinds_at, owner_at, owner_in, value_of, whole, whole_from}
+use Rattle.sq_circuit.specs.Begun.{AreTables, IsBegun, IsNext, IsTablePart, ReadsThese, is_faulty, is_fine, made_of}
+use Rattle.sq_circuit.specs.Circuits.{are_sound, fault_of, has_fault, is_sound, kinds_at, owner_in, whole, whole_from}
 use Rattle.sq_circuit.specs.Gives.{CallKinds, ColumnKinds, GivesKinds, ItemKinds}
-use Rattle.sq_circuit.specs.Invariant.{AreEarlier, HasWidth, IsCircuit, IsEarlier, IsGood, IsInOrder, IsListed, IsOwned, IsOwnedBelow, IsOwner, IsPart, IsPartOf, IsSoundAt, TakesKinds, is_table, is_view, table_count, view_count}
+use Rattle.sq_circuit.specs.Invariant.{AreEarlier, HasWidth, IsEarlier, IsGood, IsInOrder, IsListed, IsOwned, IsOwnedBelow, IsPartOf, IsSoundAt, TakesKinds, is_table, table_count}
 use Rattle.sq_circuit.specs.Listed.{AsksLists, HasList, IsListedPart, IsShort, is_loose_in}
 use Rattle.sq_circuit.specs.Nodes.{Rows, Source, Nowhere, Outer, Inner, left_source, operator, right_source}
 use Rattle.sq_circuit.specs.Verdicts.{source_sound}
@@ -23,10 +21,9 @@ use Rattle.sq_circuit.specs.declared.node.LinearOp.TheVariants.{Keep, Project, P
 use Rattle.sq_circuit.specs.declared.node.Node.{Node}
 use Rattle.sq_circuit.specs.declared.node.Node.TheVariants.{Table, Linear, Join, Distinct, Aggregate, Plus, Minus, View}
 use Rattle.sq_circuit.proofs.Alongside.{got_front, got_next}
-use Rattle.sq_circuit.proofs.Appending.{Behind, count_all, count_more, count_most, count_none, front_or_behind, front_or_last, gives_same, got_behind, kinds_more, no_view_before, order_between, order_more, owned_by, owned_more, owner_more, owner_stays, takes_same, width_same}
+use Rattle.sq_circuit.proofs.Appending.{count_all, count_more, count_most, front_or_last, gives_same, kinds_more, order_between, order_more, owned_by, owned_more, owner_more, owner_stays, takes_same, width_same}
 use Rattle.sq_circuit.proofs.Evaluating.{fault_at, sound_at, whole_at}
-use Rattle.sq_circuit.proofs.Growing.{fault_more, sound_more, whole_more}
-use Rattle.sq_circuit.proofs.Listing.{listed_circuit}
+use Rattle.sq_circuit.proofs.Growing.{sound_more, whole_more}
 
 -- ---- a node that gives its kinds has its width
 items_many : (kinds : List Kind) (es : List Expr) (ks : List Kind) → ItemKinds kinds es ks → length ks ≡ length es
@@ -108,7 +105,7 @@ tables_begin views now c tables = record {
     no_owner i v (Some p) e owner = let same = sym owner ∙ (tables i p e).owner in cc
 
 -- ---- more parts behind, none of them a table
-module _ (c more : List Part) (earlier : AreEarlier c) (no_tables : table_count more ≡ 0) where
+module _ (c more : List Part) (no_tables : table_count more ≡ 0) where
   tables_more : table_count (c ++ more) ≡ table_count c
   tables_more = let both = count_more (λ p. is_table p.node) c more in let none = no_tables in omega arith
 
@@ -119,8 +116,9 @@ module _ (c more : List Part) (earlier : AreEarlier c) (no_tables : table_count 
     listed = g.listed;
   }
 
+module _ (c more : List Part) (earlier : AreEarlier c) (no_tables : table_count more ≡ 0) where
   sound_before : (tables : List Rows) (i : ℕ) → i < length c → IsSoundAt (c ++ more) tables i → IsSoundAt c tables i
-  sound_before tables i low s = record { good = good_before tables s.good; sound = sym (sound_more c more tables earlier i low) ∙ s.sound }
+  sound_before tables i low s = record { good = good_before c more no_tables tables s.good; sound = sym (sound_more c more tables earlier i low) ∙ s.sound }
 
   list_more : (i : ℕ) → i < length c → HasList c i → HasList (c ++ more) i
   list_more i low h e tables s = subst IsListed (sym (whole_more c more tables i low)) (h (sym (ap is_loose_in (got_front c more i low)) ∙ e) tables (sound_before tables i low s))
@@ -141,7 +139,7 @@ module _ (c more : List Part) (earlier : AreEarlier c) (no_tables : table_count 
       record {
         left_earlier = h.left_earlier;
         right_earlier = h.right_earlier;
-        in_order = order_more (length c + views) nodes views c (c ++ more) i tables_more (omega arith) long p.node h.in_order;
+        in_order = order_more (length c + views) nodes views c (c ++ more) i (tables_more c more no_tables) (omega arith) long p.node h.in_order;
         takes = takes_same i (kinds_at c) (kinds_at (c ++ more)) (λ j less. sym (kinds_more c more j (omega arith))) p.node h.left_earlier h.right_earlier h.takes;
         width = width_same i (kinds_at c) (kinds_at (c ++ more)) (λ j less. sym (kinds_more c more j (omega arith))) p.node (length p.kinds) h.left_earlier h.right_earlier h.width;
         owned = owned_more views c (c ++ more) p.node p.place p.owner (λ v o. owner_stays c more views i v p.node (omega arith) h.left_earlier h.right_earlier o) h.owned;
@@ -228,7 +226,7 @@ module _ (views now : ℕ) (c : List Part) (p : Part) (b : IsBegun views now c) 
         left_earlier = next.reads.left;
         right_earlier = next.reads.right;
         in_order = order_between (length more + views) views more (length c) p.node next.no_table next.no_view
-            (let few = count_most (λ q. is_table q.node) c in let same = tables_more c (p ∷ []) earlier no_table_more in omega arith, let long = longer in omega arith);
+            (let few = count_most (λ q. is_table q.node) c in let same = tables_more c (p ∷ []) no_table_more in omega arith, let long = longer in omega arith);
         takes = takes;
         width = width_same (length c) (kinds_at c) (kinds_at more) (λ j low. sym (kinds_more c (p ∷ []) j low)) p.node (length p.kinds) next.reads.left next.reads.right (gives_width p.node (kinds_at c) p.kinds next.takes next.gives);
         owned = owned_by views more p.node p.place now p.owner next.no_table next.owner
@@ -241,7 +239,7 @@ module _ (views now : ℕ) (c : List Part) (p : Part) (b : IsBegun views now c) 
     asks = asks_more c (p ∷ []) earlier no_table_more (length c) (omega arith) p.node p.place next.reads.left next.reads.right next.asks;
     short = λ tables s.
         let read : are_sound (Some p) (source_sound c tables) ≡ true = (and_parts (not (is_faulty c tables p)) (are_sound (Some p) (source_sound c tables)) (sym (last_sound c p earlier next.reads tables) ∙ s.sound)).1 in
-        subst (IsShort p.node p.place) (sym (last_value c p earlier next.reads tables)) (next.short tables (good_before c (p ∷ []) earlier no_table_more tables s.good) read);
+        subst (IsShort p.node p.place) (sym (last_value c p earlier next.reads tables)) (next.short tables (good_before c (p ∷ []) no_table_more tables s.good) read);
   }
 
   grown_part : (i : ℕ) (q : Part) → (slice_get c i ≡ Some q) ⊎ ((i ≡ length c) × (p ≡ q)) → IsPartOf (length more + views) views more i q

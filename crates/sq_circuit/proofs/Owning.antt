@@ -51,6 +51,18 @@ module _ (c : List Part) (parts : (i : ℕ) (p : Part) → slice_get c i ≡ Som
   pub part_owned : (i : ℕ) (p : Part) → slice_get c i ≡ Some p → IsTableNode p.node p.place p.owner ⊎ HasOwner (view_count c) c p.node p.owner
   part_owned i p e = owned (view_count c) c p.node p.place p.owner (parts i p e).owned
 
+  -- an owner is a view
+  pub owner_is_view : (i v : ℕ) → owner_at c i ≡ Some v → v < view_count c
+  owner_is_view i v e = at (slice_get c i) refl
+    where
+      has : (p : Part) → slice_get c i ≡ Some p → IsTableNode p.node p.place p.owner ⊎ HasOwner (view_count c) c p.node p.owner → v < view_count c
+      has p is (inl t) = absurd (let same = sym e ∙ ap owner_in is ∙ t.no_owner in cc)
+      has p is (inr o) = subst (λ w. w < view_count c) (same_Some o.view v (sym o.is ∙ sym (ap owner_in is) ∙ e)) o.owns.is_view
+
+      at : (o : Option Part) → slice_get c i ≡ o → v < view_count c
+      at None is = absurd (cc (sym (ap owner_in is) ∙ e))
+      at (Some p) is = has p is (part_owned i p is)
+
   module _ (tables : List Rows) where
     -- a table has no fault, and is sound
     pub table_fault : (i : ℕ) (p : Part) → slice_get c i ≡ Some p → IsTableNode p.node p.place p.owner → has_fault c tables i ≡ false

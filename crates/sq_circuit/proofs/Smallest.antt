@@ -1,5 +1,5 @@
 -- A table and a view of it are a circuit.
-use Rattle.std.proofs.Common.{◌≡◌, ℕ, zero, suc, false, List, Some, None, refl, sym, subst, ◌∙◌, arith}
+use Rattle.std.proofs.Common.{◌≡◌, ℕ, zero, suc, false, List, Some, None, refl, subst, arith}
 use Rattle.std.specs.Prelude.{slice_get}
 use Rattle.std.proofs.lemmas.Option.{same_Some}
 use Rattle.sq_expr.specs.declared.expr.Kind.{Kind}

@@ -1,17 +1,19 @@
 //! What holds of circuits, each as the contract of a function that does nothing.
-ghost use Rattle.std.specs.Prelude.{◌≡◌, ◌<◌, ◌^◌, ◌++◌, ℕ, Bool, List, length, slice_get, Some, None, true, false};
+ghost use Rattle.std.specs.Prelude.{◌≡◌, ◌+◌, ◌<◌, ◌≤◌, ◌^◌, ◌++◌, [], ◌∷◌, ℕ, Bool, List, cond, length, slice_get, Some, None, true, false};
+ghost use Rattle.std.specs.List.{position};
 ghost use Rattle.sq_algebra.specs.Keyed.{Shards};
 ghost use Rattle.sq_expr.specs.declared.expr.Kind.{Kind as ColumnKind};
 ghost use Rattle.sq_value.specs.declared.value.Value.{Value as Datum};
 ghost use Rattle.sq_zset.specs.Range.{IsInRange};
-ghost use Rattle.sq_circuit.specs.Along.{least_below};
+ghost use Rattle.sq_circuit.specs.Along.{least_below, lesser};
+ghost use Rattle.sq_circuit.specs.Begun.{AreTables, AreViews, IsBegun, IsNext, IsViewOf, ReadsThese, is_faulty, is_fine, made_of};
 ghost use Rattle.sq_circuit.specs.Circuits.{has_fault, is_sound, owner_at, verdict, whole};
-ghost use Rattle.sq_circuit.specs.Invariant.{AreEarlier, HasKinds, IsCircuit, IsPart, IsSoundAt, table_and_view};
+ghost use Rattle.sq_circuit.specs.Invariant.{AreEarlier, HasKinds, IsCircuit, IsGood, IsPart, IsSoundAt, table_and_view, table_count, view_count};
 ghost use Rattle.sq_circuit.specs.Listed.{IsListedPart};
 ghost use Rattle.sq_circuit.specs.NodeLaws.{IsLawful};
 ghost use Rattle.sq_circuit.specs.Nodes.{Rows, left_source, right_source};
 ghost use Rattle.sq_circuit.specs.Pieces.{AddUpToChanges, AreChanged};
-ghost use Rattle.sq_circuit.specs.Verdicts.{IsAtMost, IsMadeOfReads, IsToBlame, source_sound, unsound_owner};
+ghost use Rattle.sq_circuit.specs.Verdicts.{AreTold, IsAtMost, IsMadeOfReads, IsToBlame, source_sound, unsound_owner};
 ghost use Rattle.sq_circuit.specs.declared.circuit.Part.{Part as Known};
 ghost use Rattle.sq_circuit.specs.declared.node.Node.{Node as Operator};
 
@@ -61,6 +63,46 @@ pub fn verdicts_are_least_owners()
     ensures none { (c : List Known) → IsCircuit c → (tables : List Rows) → verdict c tables ≡ None → (i : ℕ) → i < length c → has_fault c tables i ≡ false }
     ensures clear { (c : List Known) → IsCircuit c → (tables : List Rows) → ((i : ℕ) → i < length c → has_fault c tables i ≡ false) → verdict c tables ≡ None }
     ensures unsound { (c : List Known) → IsCircuit c → (tables : List Rows) → verdict c tables ≡ least_below (unsound_owner c tables) (length c) }
+{}
+
+/// The verdict is the first view that a test tells of, if the test tells of each view whether it is to blame, given that none
+/// before it is: so each view is looked at with all earlier ones in order.
+pub fn verdicts_are_told_view_by_view<X>()
+    ensures { (test : X → Bool) (xs : List X) (c : List Known) (tables : List Rows) → IsCircuit c → length xs ≡ view_count c → AreTold test xs c tables → verdict c tables ≡ position test xs }
+{}
+
+/// A part that is appended is worth its operator over what it reads, has a fault by that, and is sound if it has none and what it
+/// reads is sound; the verdict is then the lesser of the old one and its owner, if it has a fault.
+pub fn a_last_part_is_made_of_the_others()
+    ensures value { (c : List Known) (p : Known) → AreEarlier c → ReadsThese c p → (tables : List Rows) → whole (c ++ p ∷ []) tables (length c) ≡ made_of c tables p }
+    ensures fault { (c : List Known) (p : Known) → AreEarlier c → ReadsThese c p → (tables : List Rows) → has_fault (c ++ p ∷ []) tables (length c) ≡ is_faulty c tables p }
+    ensures sound { (c : List Known) (p : Known) → AreEarlier c → ReadsThese c p → (tables : List Rows) → is_sound (c ++ p ∷ []) tables (length c) ≡ is_fine c tables p }
+    ensures verdict { (c : List Known) (p : Known) → AreEarlier c → ReadsThese c p → (tables : List Rows) → verdict (c ++ p ∷ []) tables ≡ lesser (verdict c tables) (cond (is_faulty c tables p) p.owner None) }
+    ensures earlier { (c : List Known) (p : Known) → AreEarlier c → ReadsThese c p → AreEarlier (c ++ p ∷ []) }
+{}
+
+/// A circuit in the making begins with its tables, for any number of views. A node that may be appended leaves it one, and so
+/// does going on to a later view.
+pub fn circuits_are_made_node_by_node()
+    ensures begun { (views now : ℕ) (c : List Known) → AreTables c → IsBegun views now c }
+    ensures grown { (views now : ℕ) (c : List Known) (p : Known) → IsBegun views now c → IsNext views now c p → IsBegun views now (c ++ p ∷ []) }
+    ensures later { (views now later : ℕ) (c : List Known) → IsBegun views now c → now ≤ later → IsBegun views later c }
+    ensures earlier { (views now : ℕ) (c : List Known) → IsBegun views now c → AreEarlier c }
+    ensures good { (c more : List Known) → table_count more ≡ 0 → (tables : List Rows) → IsGood (c ++ more) tables → IsGood c tables }
+{}
+
+/// In a circuit in the making an earlier verdict stays, and a fault of a new node is the view's that is being made.
+pub fn verdicts_are_made_node_by_node()
+    ensures kept { (views now : ℕ) (c : List Known) (p : Known) → IsBegun views now c → IsNext views now c p → (tables : List Rows) (w : ℕ) → verdict c tables ≡ Some w → verdict (c ++ p ∷ []) tables ≡ Some w }
+    ensures first { (views now : ℕ) (c : List Known) (p : Known) → IsBegun views now c → IsNext views now c p → (tables : List Rows) → verdict c tables ≡ None → verdict (c ++ p ∷ []) tables ≡ cond (is_faulty c tables p) (Some now) None }
+{}
+
+/// With its views behind it, a circuit in the making is one. A view is worth the node that it reads, and no view adds a fault.
+pub fn views_end_a_circuit()
+    ensures circuit { (views now : ℕ) (c vs : List Known) → IsBegun views now c → AreViews c vs → length vs ≡ views → length c + views < 2 ^ 32 → IsCircuit (c ++ vs) }
+    ensures good { (views now : ℕ) (c vs : List Known) → IsBegun views now c → AreViews c vs → (tables : List Rows) → IsGood (c ++ vs) tables → IsGood c tables }
+    ensures value { (views now : ℕ) (c vs : List Known) → IsBegun views now c → AreViews c vs → (tables : List Rows) (v : ℕ) (p : Known) → slice_get vs v ≡ Some p → (h : IsViewOf c v p) → whole (c ++ vs) tables (length c + v) ≡ whole c tables h.input }
+    ensures verdict { (views now : ℕ) (c vs : List Known) → IsBegun views now c → AreViews c vs → (tables : List Rows) → verdict (c ++ vs) tables ≡ verdict c tables }
 {}
 
 /// Parts that stand where they may and give their kinds are a circuit, if the sound nodes that others read as lists are lists:
