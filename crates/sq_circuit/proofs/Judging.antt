@@ -8,7 +8,7 @@ use Rattle.std.proofs.lemmas.Grind.{common_steps}
 use Rattle.std.proofs.lemmas.List.Sums.{position_or_len_is}
 use Rattle.std.proofs.lemmas.Option.{same_Some, slice_get_cases, slice_get_within, slice_get-get_or}
 use Rattle.sq_circuit.specs.Along.{least_below, lesser}
-use Rattle.sq_circuit.specs.Begun.{AreViews, IsBegun, IsNext, ReadsThese, is_faulty}
+use Rattle.sq_circuit.specs.Begun.{IsBegun, IsEnded, IsNext, ReadsThese, is_faulty}
 use Rattle.sq_circuit.specs.Circuits.{has_fault, owner_at, owner_in, verdict}
 use Rattle.sq_circuit.specs.Invariant.{AreEarlier, IsCircuit, view_count}
 use Rattle.sq_circuit.specs.Nodes.{Rows}
@@ -95,14 +95,14 @@ module _ (views now : ℕ) (c : List Part) (p : Part) (b : IsBegun views now c) 
   verdict_new e = with_owner ∙ ap (λ o. lesser o (cond (is_faulty c tables p) (Some now) None)) e
 
 -- ---- the views at the end
-pub ended_verdict : (views now : ℕ) (c vs : List Part) → IsBegun views now c → AreViews c vs → (tables : List Rows) → verdict (c ++ vs) tables ≡ verdict c tables
-ended_verdict views now c vs b ends tables =
+pub ended_verdict : (views now : ℕ) (c vs : List Part) → IsEnded views now c vs → (tables : List Rows) → verdict (c ++ vs) tables ≡ verdict c tables
+ended_verdict views now c vs h tables =
     least_stays (blame (c ++ vs) tables) (length c) (length (c ++ vs)) (let both = length-append c vs in omega arith) none
-    ∙ least_same (blame (c ++ vs) tables) (blame c tables) (length c) (blame_more c vs tables (begun_earlier views now c b))
+    ∙ least_same (blame (c ++ vs) tables) (blame c tables) (length c) (blame_more c vs tables (begun_earlier views now c h.begun))
   where
     at : (i : ℕ) → length c ≤ i → (p : Part) → slice_get (c ++ vs) i ≡ Some p → (slice_get c i ≡ Some p) ⊎ Behind (length c) vs i p → has_fault (c ++ vs) tables i ≡ false
     at i high p e (inl front) = absurd (let low = slice_get_within c i p front in omega arith)
-    at i high p e (inr k) = view_fault views now c vs b ends tables i k.place p e (ends k.place p k.at)
+    at i high p e (inr k) = view_fault views now c vs h tables i k.place p e (h.each k.place p k.at)
 
     none : (i : ℕ) → length c ≤ i → i < length (c ++ vs) → blame (c ++ vs) tables i ≡ None
     none i high low = step (slice_get_cases (c ++ vs) i).1

@@ -13,6 +13,7 @@ pub mod Fewer
 pub mod Listing
 pub mod Appending
 pub mod Making
+pub mod Staying
 pub mod Ending
 pub mod Judging
 pub mod Composing

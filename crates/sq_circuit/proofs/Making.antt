@@ -120,7 +120,7 @@ module _ (c more : List Part) (earlier : AreEarlier c) (no_tables : table_count 
   sound_before : (tables : List Rows) (i : ℕ) → i < length c → IsSoundAt (c ++ more) tables i → IsSoundAt c tables i
   sound_before tables i low s = record { good = good_before c more no_tables tables s.good; sound = sym (sound_more c more tables earlier i low) ∙ s.sound }
 
-  list_more : (i : ℕ) → i < length c → HasList c i → HasList (c ++ more) i
+  pub list_more : (i : ℕ) → i < length c → HasList c i → HasList (c ++ more) i
   list_more i low h e tables s = subst IsListed (sym (whole_more c more tables i low)) (h (sym (ap is_loose_in (got_front c more i low)) ∙ e) tables (sound_before tables i low s))
 
   pub asks_more : (i : ℕ) → i ≤ length c → (n : Node) (place : Bool) → IsEarlier i (left_source n) → IsEarlier i (right_source n) → AsksLists c n place → AsksLists (c ++ more) n place

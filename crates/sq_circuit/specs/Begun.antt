@@ -3,11 +3,12 @@
 --     made_of c tables p      what a part behind c is worth.      is_faulty c tables p, is_fine c tables p     whether it has a fault, and is sound
 --     IsBegun views now c     tables, and nodes of a circuit of so many views, none of which belongs to a view behind `now`
 --     IsNext views now c p    the part p is a node for the view `now`, and may be appended
---     AreViews c vs           views in order, each of a node of c
-use Rattle.std.specs.Prelude.{◌≡◌, ◌+◌, ◌<◌, ◌≤◌, ℕ, Bool, true, false, not, ◌&&◌, List, length, slice_get, Some, None}
+--     IsEnded views now c vs  such parts, and as many views in order, each of a node of c
+--     IsGrown c d             d is c with more nodes behind, none of them a table
+use Rattle.std.specs.Prelude.{◌≡◌, ◌+◌, ◌<◌, ◌≤◌, ℕ, Bool, true, false, not, ◌&&◌, List, ◌++◌, length, slice_get, Some, None}
 use Rattle.sq_circuit.specs.Circuits.{are_sound, fault_of, kinds_at, owner_at, value_of, whole_from}
 use Rattle.sq_circuit.specs.Gives.{GivesKinds}
-use Rattle.sq_circuit.specs.Invariant.{IsEarlier, IsGood, IsPartOf, TakesKinds, is_table, is_view}
+use Rattle.sq_circuit.specs.Invariant.{IsEarlier, IsGood, IsPartOf, TakesKinds, is_table, is_view, table_count}
 use Rattle.sq_circuit.specs.Listed.{AsksLists, IsListedPart, IsShort}
 use Rattle.sq_circuit.specs.Nodes.{Rows, left_source, right_source}
 use Rattle.sq_circuit.specs.Verdicts.{source_sound}
@@ -65,5 +66,13 @@ pub record IsViewOf (c : List Part) (v : ℕ) (p : Part) : Type 0 where
   pub owner : p.owner ≡ Some v
   pub not_later : (w : ℕ) → owner_at c input ≡ Some w → w ≤ v
 
-abbrev pub AreViews : List Part → List Part → Type 0
-AreViews c vs = (v : ℕ) (p : Part) → slice_get vs v ≡ Some p → IsViewOf c v p
+pub record IsEnded (views now : ℕ) (c vs : List Part) : Type 0 where
+  pub begun : IsBegun views now c
+  pub each : (v : ℕ) (p : Part) → slice_get vs v ≡ Some p → IsViewOf c v p
+  pub many : length vs ≡ views
+
+-- ---- longer lists
+pub record IsGrown (c d : List Part) : Type 0 where
+  pub more : List Part
+  pub is : d ≡ c ++ more
+  pub no_tables : table_count more ≡ 0

@@ -6,10 +6,10 @@ ghost use Rattle.sq_expr.specs.declared.expr.Kind.{Kind as ColumnKind};
 ghost use Rattle.sq_value.specs.declared.value.Value.{Value as Datum};
 ghost use Rattle.sq_zset.specs.Range.{IsInRange};
 ghost use Rattle.sq_circuit.specs.Along.{least_below, lesser};
-ghost use Rattle.sq_circuit.specs.Begun.{AreTables, AreViews, IsBegun, IsNext, IsViewOf, ReadsThese, is_faulty, is_fine, made_of};
+ghost use Rattle.sq_circuit.specs.Begun.{AreTables, IsBegun, IsEnded, IsGrown, IsNext, ReadsThese, is_faulty, is_fine, made_of};
 ghost use Rattle.sq_circuit.specs.Circuits.{has_fault, is_sound, owner_at, verdict, whole};
-ghost use Rattle.sq_circuit.specs.Invariant.{AreEarlier, HasKinds, IsCircuit, IsGood, IsPart, IsSoundAt, table_and_view, table_count, view_count};
-ghost use Rattle.sq_circuit.specs.Listed.{IsListedPart};
+ghost use Rattle.sq_circuit.specs.Invariant.{AreEarlier, HasKinds, IsCircuit, IsGood, IsPart, IsSoundAt, is_table, table_and_view, view_count};
+ghost use Rattle.sq_circuit.specs.Listed.{HasList, IsListedPart};
 ghost use Rattle.sq_circuit.specs.NodeLaws.{IsLawful};
 ghost use Rattle.sq_circuit.specs.Nodes.{Rows, left_source, right_source};
 ghost use Rattle.sq_circuit.specs.Pieces.{AddUpToChanges, AreChanged};
@@ -81,6 +81,20 @@ pub fn a_last_part_is_made_of_the_others()
     ensures earlier { (c : List Known) (p : Known) → AreEarlier c → ReadsThese c p → AreEarlier (c ++ p ∷ []) }
 {}
 
+/// Parts that nodes are appended to stay: their Z-sets, faults and soundness, over all tables that are good for the longer list.
+pub fn longer_lists_keep_their_parts()
+    ensures same { (c : List Known) → IsGrown c c }
+    ensures next { (c d : List Known) (p : Known) → IsGrown c d → is_table p.node ≡ false → IsGrown c (d ++ p ∷ []) }
+    ensures through { (c d e : List Known) → IsGrown c d → IsGrown d e → IsGrown c e }
+    ensures length { (c d : List Known) → IsGrown c d → length c ≤ length d }
+    ensures part { (c d : List Known) → IsGrown c d → (i : ℕ) → i < length c → slice_get d i ≡ slice_get c i }
+    ensures value { (c d : List Known) → IsGrown c d → (tables : List Rows) (i : ℕ) → i < length c → whole d tables i ≡ whole c tables i }
+    ensures fault { (c d : List Known) → IsGrown c d → AreEarlier c → (tables : List Rows) (i : ℕ) → i < length c → has_fault d tables i ≡ has_fault c tables i }
+    ensures sound { (c d : List Known) → IsGrown c d → AreEarlier c → (tables : List Rows) (i : ℕ) → i < length c → is_sound d tables i ≡ is_sound c tables i }
+    ensures good { (c d : List Known) → IsGrown c d → (tables : List Rows) → IsGood d tables → IsGood c tables }
+    ensures list { (c d : List Known) → IsGrown c d → AreEarlier c → (i : ℕ) → i < length c → HasList c i → HasList d i }
+{}
+
 /// A circuit in the making begins with its tables, for any number of views. A node that may be appended leaves it one, and so
 /// does going on to a later view.
 pub fn circuits_are_made_node_by_node()
@@ -88,21 +102,20 @@ pub fn circuits_are_made_node_by_node()
     ensures grown { (views now : ℕ) (c : List Known) (p : Known) → IsBegun views now c → IsNext views now c p → IsBegun views now (c ++ p ∷ []) }
     ensures later { (views now later : ℕ) (c : List Known) → IsBegun views now c → now ≤ later → IsBegun views later c }
     ensures earlier { (views now : ℕ) (c : List Known) → IsBegun views now c → AreEarlier c }
-    ensures good { (c more : List Known) → table_count more ≡ 0 → (tables : List Rows) → IsGood (c ++ more) tables → IsGood c tables }
 {}
 
 /// In a circuit in the making an earlier verdict stays, and a fault of a new node is the view's that is being made.
 pub fn verdicts_are_made_node_by_node()
-    ensures kept { (views now : ℕ) (c : List Known) (p : Known) → IsBegun views now c → IsNext views now c p → (tables : List Rows) (w : ℕ) → verdict c tables ≡ Some w → verdict (c ++ p ∷ []) tables ≡ Some w }
-    ensures first { (views now : ℕ) (c : List Known) (p : Known) → IsBegun views now c → IsNext views now c p → (tables : List Rows) → verdict c tables ≡ None → verdict (c ++ p ∷ []) tables ≡ cond (is_faulty c tables p) (Some now) None }
+    ensures kept { (n now : ℕ) (c : List Known) (p : Known) → IsBegun n now c → IsNext n now c p → (tables : List Rows) (w : ℕ) → verdict c tables ≡ Some w → verdict (c ++ p ∷ []) tables ≡ Some w }
+    ensures first { (n now : ℕ) (c : List Known) (p : Known) → IsBegun n now c → IsNext n now c p → (tables : List Rows) → verdict c tables ≡ None → verdict (c ++ p ∷ []) tables ≡ cond (is_faulty c tables p) (Some now) None }
 {}
 
 /// With its views behind it, a circuit in the making is one. A view is worth the node that it reads, and no view adds a fault.
 pub fn views_end_a_circuit()
-    ensures circuit { (views now : ℕ) (c vs : List Known) → IsBegun views now c → AreViews c vs → length vs ≡ views → length c + views < 2 ^ 32 → IsCircuit (c ++ vs) }
-    ensures good { (views now : ℕ) (c vs : List Known) → IsBegun views now c → AreViews c vs → (tables : List Rows) → IsGood (c ++ vs) tables → IsGood c tables }
-    ensures value { (views now : ℕ) (c vs : List Known) → IsBegun views now c → AreViews c vs → (tables : List Rows) (v : ℕ) (p : Known) → slice_get vs v ≡ Some p → (h : IsViewOf c v p) → whole (c ++ vs) tables (length c + v) ≡ whole c tables h.input }
-    ensures verdict { (views now : ℕ) (c vs : List Known) → IsBegun views now c → AreViews c vs → (tables : List Rows) → verdict (c ++ vs) tables ≡ verdict c tables }
+    ensures circuit { (views now : ℕ) (c vs : List Known) → IsEnded views now c vs → length c + views < 2 ^ 32 → IsCircuit (c ++ vs) }
+    ensures good { (views now : ℕ) (c vs : List Known) → IsEnded views now c vs → (tables : List Rows) → IsGood (c ++ vs) tables → IsGood c tables }
+    ensures value { (views now : ℕ) (c vs : List Known) (h : IsEnded views now c vs) (tables : List Rows) (v : ℕ) (p : Known) (e : slice_get vs v ≡ Some p) → whole (c ++ vs) tables (length c + v) ≡ whole c tables (h.each v p e).input }
+    ensures verdict { (views now : ℕ) (c vs : List Known) → IsEnded views now c vs → (tables : List Rows) → verdict (c ++ vs) tables ≡ verdict c tables }
 {}
 
 /// Parts that stand where they may and give their kinds are a circuit, if the sound nodes that others read as lists are lists:

@@ -1,5 +1,5 @@
 -- Circuits in the making.
-use Rattle.sq_circuit.proofs.Making.{begun_earlier, begun_later, good_before, grown, tables_begin}
+use Rattle.sq_circuit.proofs.Making.{begun_earlier, begun_later, grown, tables_begin}
 use Rattle.sq_circuit.proofs.laws.circuits_are_made_node_by_node.Goals as goal
 
 pub returns-clause-begun : goal.returns-clause-begun
@@ -13,6 +13,3 @@ returns-clause-later a = begun_later
 
 pub returns-clause-earlier : goal.returns-clause-earlier
 returns-clause-earlier a = begun_earlier
-
-pub returns-clause-good : goal.returns-clause-good
-returns-clause-good a = good_before
