@@ -114,7 +114,7 @@ pub fn verdicts_are_made_node_by_node()
 pub fn views_end_a_circuit()
     ensures circuit { (views now : ℕ) (c vs : List Known) → IsEnded views now c vs → length c + views < 2 ^ 32 → IsCircuit (c ++ vs) }
     ensures good { (views now : ℕ) (c vs : List Known) → IsEnded views now c vs → (tables : List Rows) → IsGood (c ++ vs) tables → IsGood c tables }
-    ensures value { (views now : ℕ) (c vs : List Known) (h : IsEnded views now c vs) (tables : List Rows) (v : ℕ) (p : Known) (e : slice_get vs v ≡ Some p) → whole (c ++ vs) tables (length c + v) ≡ whole c tables (h.each v p e).input }
+    ensures value { (n now : ℕ) (c vs : List Known) (h : IsEnded n now c vs) (tables : List Rows) (v : ℕ) (p : Known) (e : slice_get vs v ≡ Some p) → whole (c ++ vs) tables (length c + v) ≡ whole c tables (h.each v p e).input }
     ensures verdict { (views now : ℕ) (c vs : List Known) → IsEnded views now c vs → (tables : List Rows) → verdict (c ++ vs) tables ≡ verdict c tables }
 {}
 
