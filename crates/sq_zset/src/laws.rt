@@ -1,13 +1,14 @@
 //! Laws of Z-sets of rows, each as the contract of a function that does nothing.
 ghost use Rattle.std.specs.Prelude.{◌≡◌, ◌≤◌, ◌+◌, ◌*◌, ℤ, List, ◌++◌, length, Bool, pos, neg_ℤ, ◌+ℤ◌, ◌-ℤ◌, map, if◌then◌else◌};
-ghost use Rattle.std.specs.List.{filter, flat_map};
+ghost use Rattle.std.specs.List.{filter, flat_map, list_all};
 ghost use Rattle.std.specs.Ordering.{is_eq};
 ghost use Rattle.sq_value.specs.declared.value.Value.{Value as Datum};
 ghost use Rattle.sq_value.specs.Order.{row_cmp};
 ghost use Rattle.sq_algebra.specs.Groups.{IsAbelian, IsAdditive, z_sets};
 ghost use Rattle.sq_algebra.specs.Keyed.{at_key};
 ghost use Rattle.sq_algebra.specs.Listed.{count, changed, first_of_each, among, without};
-ghost use Rattle.sq_algebra.specs.Operators.{IsNonNegative, image, keep, distinct, product, meet};
+ghost use Rattle.sq_algebra.specs.Operators.{IsNonNegative, image, keep, distinct, product, meet, repeated};
+ghost use Rattle.sq_algebra.specs.Passing.{all_pass};
 ghost use Rattle.sq_algebra.specs.ZSet.{ZSet as Weighted, entries, from_pairs, zero, single, of_list, weight, total, plus, negate, minus};
 ghost use Rattle.sq_zset.specs.Collecting.{mass_of};
 ghost use Rattle.sq_zset.specs.Loops.{GivesAtMostOne, nested_loops};
@@ -46,6 +47,14 @@ pub fn rows_have_totals()
     ensures negation { (z : Weighted (List Datum) row_cmp) → total (negate z) ≡ neg_ℤ (total z) }
     ensures difference { (y z : Weighted (List Datum) row_cmp) → total (minus y z) ≡ total y -ℤ total z }
     ensures list { (rows : List (List Datum)) → total (of_list row_cmp rows) ≡ pos (length rows) }
+{}
+
+/// A Z-set of rows without a weight below 0 is that of a list of rows: of its rows, each as often as its weight says. Its
+/// total is the length of this list, and all members of this list pass a test exactly if all its rows do.
+pub fn nonnegative_rows_are_lists()
+    ensures repeated { (z : Weighted (List Datum) row_cmp) → IsNonNegative z → of_list row_cmp (repeated z) ≡ z }
+    ensures total { (z : Weighted (List Datum) row_cmp) → IsNonNegative z → total z ≡ pos (length (repeated z)) }
+    ensures test { (p : List Datum → Bool) (z : Weighted (List Datum) row_cmp) → IsNonNegative z → list_all p (repeated z) ≡ all_pass p z }
 {}
 
 /// The mass of a Z-set is the sum of its absolute weights. If no weight is negative, it is the total. That of a sum or a
