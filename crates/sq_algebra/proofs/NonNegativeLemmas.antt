@@ -1,10 +1,9 @@
 -- Z-sets without weights below 0: they are the Z-sets of lists, and the operators keep them so.
-use Rattle.std.proofs.Common.{◌≡◌, ℕ, zero, suc, ◌≤◌, List, [], ◌∷◌, ◌++◌, Bool, true, false, cond, ℤ, pos, negsuc, ◌+ℤ◌, ◌≤ℤ◌, nat_abs, replicate, length, get_or, filter, refl, sym, ap, ap₂, subst, ◌∙◌, arith, Ordering, is_eq}
+use Rattle.std.proofs.Common.{◌≡◌, ℕ, zero, suc, ◌≤◌, List, Bool, true, false, cond, ℤ, pos, negsuc, ◌+ℤ◌, ◌≤ℤ◌, nat_abs, replicate, length, get_or, filter, refl, sym, ap, ap₂, subst, ◌∙◌, arith, Ordering, is_eq}
 use Rattle.std.specs.Prelude.{int_lt}
-use Rattle.std.specs.List.{All, AllByRecursion, flat_map, list_all}
+use Rattle.std.specs.List.{flat_map, list_all}
 use Rattle.std.specs.Cmp.{IsTotalOrder}
 use Rattle.std.specs.FinMap.{IsAntisymmetric}
-use Rattle.std.proofs.lemmas.List.Elements.{recursion_from_All}
 use Rattle.std.proofs.lemmas.List.Sums.{count_by-le-length, length-filter}
 use borrow.Author.Differences.{ints, at_most_in}
 use Rattle.sq_algebra.specs.Listed.{count}
@@ -90,20 +89,3 @@ module _ {K : Type 0} (R : K → K → Ordering) (o : IsTotalOrder R) (identical
       subst (λ x. IsNonNegative x)
       (sym (product-of_list U u one Q q alike R o identical f (repeated y) (repeated z)) ∙ ap₂ (product U f) (of_list-repeated Q q alike y left) (of_list-repeated R o identical z right))
       (nonnegative-of_list U u (flat_map (λ x. flat_map (f x) (repeated z)) (repeated y)))
-
--- what holds of each key holds of each member of the list
-module _ {K : Type 0} (P : K → Type 0) where
-  replicated : (n : ℕ) (k : K) → P k → AllByRecursion P (replicate n k)
-  replicated zero k h = tt
-  replicated (suc n) k h = (h, replicated n k h)
-
-  joined : (xs ys : List K) → AllByRecursion P xs → AllByRecursion P ys → AllByRecursion P (xs ++ ys)
-  joined [] ys g h = h
-  joined (x ∷ xs) ys g h = (g.0, joined xs ys g.1 h)
-
-  members : (es : List (K × ℤ)) → AllByRecursion (λ e. P e.0) es → AllByRecursion P (flat_map (λ e. replicate (nat_abs e.1) e.0) es)
-  members [] h = tt
-  members (e ∷ es) h = joined (replicate (nat_abs e.1) e.0) (flat_map (λ e. replicate (nat_abs e.1) e.0) es) (replicated (nat_abs e.1) e.0 h.0) (members es h.1)
-
-  pub each-repeated : {R : K → K → Ordering} (z : ZSet K R) → All (λ e. P e.0) (entries z) → AllByRecursion P (repeated z)
-  each-repeated z h = members (entries z) (recursion_from_All (λ (e : K × ℤ). P e.0) (entries z) h)

@@ -7,7 +7,6 @@ pub mod Smallest
 pub mod Lawful
 pub mod Growing
 pub mod Lawfully
-pub mod Lower
 pub mod Following
 pub mod Grouped
 pub mod Plainly

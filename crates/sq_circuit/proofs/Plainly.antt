@@ -11,6 +11,7 @@ use Rattle.sq_value.specs.OrderLaws.{row_cmp-total, row_cmp-antisymmetric}
 use Rattle.sq_expr.specs.declared.expr.Kind.{Kind}
 use Rattle.sq_algebra.specs.Operators.{IsNonNegative, distinct, image, pairs_where}
 use Rattle.sq_algebra.specs.ZSet.{entries, minus, plus, total, weight}
+use Rattle.sq_algebra.proofs.EachLemmas.{each-distinct, each-minus, each-plus}
 use Rattle.sq_algebra.proofs.NonNegativeLemmas.{nonnegative-distinct, nonnegative-image, nonnegative-of_list, nonnegative-plus, nonnegative-product, weight-le-total}
 use Rattle.sq_zset.specs.Collecting.{mass_of}
 use Rattle.sq_zset.proofs.Masses.{mass-minus}
@@ -32,7 +33,6 @@ use Rattle.sq_circuit.proofs.Bounding.{listed_few}
 use Rattle.sq_circuit.proofs.Evaluating.{fault_at, sound_at, whole_at}
 use Rattle.sq_circuit.proofs.Following.{join_follows, keep_follows, pad_follows, project_follows}
 use Rattle.sq_circuit.proofs.Grouped.{aggregate_follows}
-use Rattle.sq_circuit.proofs.Lower.{rows_of_difference, rows_of_distinct, rows_of_sum}
 use Rattle.sq_circuit.proofs.Owning.{reads_earlier}
 
 -- few rows, with small weights
@@ -161,7 +161,7 @@ module _ (c : List Part) (parts : (i : ℕ) (p : Part) → slice_get c i ≡ Som
         (list_of a l ls shape.1).above (list_of b r rs shape.2).above)
     claim (Distinct j) is l r ls rs fine inside gives shape =
         counted p (distinct (whole c tables j)) shape fine
-        (own_kinds (kinds_at c j) (distinct (whole c tables j)) gives (rows_of_distinct (λ row. AreOfKinds row (kinds_at c j)) (whole c tables j) (kinds_of j l ls)))
+        (own_kinds (kinds_at c j) (distinct (whole c tables j)) gives (each-distinct (λ row. AreOfKinds row (kinds_at c j)) row_cmp row_cmp-total (whole c tables j) (kinds_of j l ls)))
         (nonnegative-distinct row_cmp row_cmp-total (whole c tables j))
     claim (Aggregate j spec) is l r ls rs fine inside gives shape =
         counted p (aggregated spec (whole c tables j)) shape.0 fine
@@ -169,11 +169,11 @@ module _ (c : List Part) (parts : (i : ℕ) (p : Part) → slice_get c i ≡ Som
         (nonnegative-of_list row_cmp row_cmp-total (shown_rows spec (whole c tables j)))
     claim (Plus a b) is l r ls rs fine inside gives shape =
         counted p (plus (whole c tables a) (whole c tables b)) shape.0 fine
-        (rows_of_sum (λ row. AreOfKinds row p.kinds) (whole c tables a) (whole c tables b)
+        (each-plus (λ row. AreOfKinds row p.kinds) row_cmp row_cmp-total (whole c tables a) (whole c tables b)
         (own_kinds (kinds_at c a) (whole c tables a) gives.0 (kinds_of a l ls)) (own_kinds (kinds_at c b) (whole c tables b) gives.1 (kinds_of b r rs)))
         (nonnegative-plus row_cmp row_cmp-total (whole c tables a) (whole c tables b) (list_of a l ls shape.1).above (list_of b r rs shape.2).above)
     claim (Minus a b) is l r ls rs fine inside gives shape = record {
-      kinds = rows_of_difference (λ row. AreOfKinds row p.kinds) (whole c tables a) (whole c tables b)
+      kinds = each-minus (λ row. AreOfKinds row p.kinds) row_cmp row_cmp-total (whole c tables a) (whole c tables b)
           (own_kinds (kinds_at c a) (whole c tables a) gives.0 (kinds_of a l ls)) (own_kinds (kinds_at c b) (whole c tables b) gives.1 (kinds_of b r rs));
       light = difference_light (whole c tables a) (whole c tables b) (list_of a l ls shape.1) (list_of b r rs shape.2);
       listed = never_counted (Minus a b) is (λ h. h) (minus (whole c tables a) (whole c tables b));

@@ -1,6 +1,7 @@
 -- The mass of a Z-set of rows, the sum of its absolute weights.
-use Rattle.std.proofs.Common.{◌≡◌, ℕ, ◌+◌, ◌*◌, ◌≤◌, ◌+ℤ◌, ◌*ℤ◌, ◌≤ℤ◌, List, [], ◌∷◌, ◌++◌, length, Bool, true, false, cond, ℤ, pos, negsuc, neg_ℤ, unsigned_abs, get_or, Option, Some, None, refl, sym, ap, ap₂, subst, ◌∙◌, mul-add, add-mul, is_eq, arith}
+use Rattle.std.proofs.Common.{◌≡◌, ℕ, ◌+◌, ◌*◌, ◌^◌, ◌≤◌, ◌+ℤ◌, ◌*ℤ◌, ◌≤ℤ◌, List, [], ◌∷◌, ◌++◌, length, Bool, true, false, not, cond, ℤ, pos, negsuc, neg_ℤ, unsigned_abs, get_or, Option, Some, None, refl, sym, ap, ap₂, subst, ◌∙◌, mul-add, add-mul, is_eq, arith}
 use Rattle.std.specs.List.{All, AllByRecursion, filter, flat_map}
+use Rattle.std.proofs.lemmas.Bool.{le-leb}
 use Rattle.std.proofs.lemmas.Int.{unsigned_abs-mul}
 use Rattle.std.proofs.lemmas.List.Elements.{recursion_from_All}
 use Rattle.std.proofs.lemmas.List.Sums.{sum_by-append, sum_by-cons}
@@ -13,6 +14,7 @@ use Rattle.sq_algebra.specs.ZSet.{ZSet, collect, entries, from_pairs, int_sum_by
 use Rattle.sq_algebra.proofs.LinearLemmas.{entry_weight}
 use Rattle.sq_algebra.proofs.Weights.{entries-from_pairs, total-entries}
 use Rattle.sq_zset.specs.Collecting.{mass_of}
+use Rattle.sq_zset.specs.Range.{IsInRange, first_outside_in}
 use Rattle.sq_zset.proofs.Collecting.{mass_of-add}
 
 -- ---- lists of pairs
@@ -141,3 +143,14 @@ pub mass-total : (z : ZSet (List Value) row_cmp) → IsNonNegative z → pos (ma
 mass-total z above =
     let each : All (λ (e : List Value × ℤ). pos 0 ≤ℤ e.1) (entries z) = λ i d low. subst (λ n. pos 0 ≤ℤ n) (entry_weight row_cmp row_cmp-total z i d low) (above (get_or (entries z) i d).0) in
     counted (entries z) (recursion_from_All (λ (e : List Value × ℤ). pos 0 ≤ℤ e.1) (entries z) each) ∙ sym (total-entries row_cmp z)
+
+-- ---- ranges
+light : (es : List (List Value × ℤ)) → mass_of es ≤ 2 ^ 62 → first_outside_in es ≡ None
+light [] h = refl
+light (e ∷ es) h =
+    let whole = sum_by-cons (λ (d : List Value × ℤ). unsigned_abs d.1) e es in
+    let fits : unsigned_abs e.1 ≤ 2 ^ 62 = omega arith in
+    ap (λ b. cond (not b) (Some e.1) (first_outside_in es)) (le-leb (unsigned_abs e.1) (2 ^ 62) fits) ∙ light es (omega arith)
+
+pub mass-in_range : (z : ZSet (List Value) row_cmp) → mass_of (entries z) ≤ 2 ^ 62 → IsInRange z
+mass-in_range z h = light (entries z) h
