@@ -7,6 +7,7 @@ use Rattle.std.proofs.lemmas.List.Folds.{list_any-append}
 use Rattle.sq_value.specs.declared.value.Value.{Value}
 use Rattle.sq_value.specs.declared.value.Value.TheVariants.{Null, Int, Text}
 use Rattle.sq_ast.specs.declared.query.SetOp.{SetOp}
+use Rattle.sq_algebra.proofs.AnyLemmas.{any_flat, any_mapped, any_of_both, any_same, any_swapped, find_is, none_of_all, or_assoc, or_false}
 use Rattle.sq_expr.specs.declared.cond.Cond.{Cond}
 use Rattle.sq_expr.specs.declared.expr.Expr.{Expr}
 use Rattle.sq_expr.specs.declared.expr.Kind.{Kind}
@@ -42,8 +43,8 @@ use Rattle.sq_bridge.proofs.Combining.{chain_step, common_step}
 use Rattle.sq_bridge.proofs.Grouping.{projected_is, values_at}
 use Rattle.sq_bridge.proofs.LeftJoining.{first_items}
 use Rattle.sq_bridge.proofs.Meaningful.{BlockFits, block_calls_suit, block_item_rows_are, block_rows_are}
-use Rattle.sq_bridge.proofs.Ranging.{any_flat, any_mapped, any_of_both, any_same, any_swapped, crowded_is, find_is, group_sums_outside, items_outside, none_of_all, or_assoc, or_false, outside_number, selected_outside}
-use Rattle.sq_bridge.proofs.Sorting.{sources_widths}
+use Rattle.sq_bridge.proofs.Ranging.{crowded_is, group_sums_outside, items_outside, outside_number, selected_outside}
+use Rattle.sq_typed.proofs.Sorting.{source_widths}
 use Rattle.sq_bridge.proofs.Staging.{first_holds, first_rows_are, joined_rows_are, next_holds, on_pairs_are, same_widths}
 
 -- ---- what is of its kind is inside
@@ -306,7 +307,7 @@ module _ (ns : List NodeSource) (s : Source) (ss : List Source) (ks : List Kinde
         let g = good none in
         ap₂ (λ a b. a || b)
         (items_fault grouping joined rows_kept (flat_map (λ k. k) (map (λ k. k.kinded.kinds) ks)) (block_rows_are ns s ss ks where_ grouping fits worth comma) (kept_kinds g) (block_calls_suit ns s ss ks where_ grouping fits worth comma)
-        ∙ ap (λ b. b || list_any is_outside (tested_calls grouping rows_kept)) (joined_fault (members_of where_) ns s ss ks worth comma (sources_widths (s ∷ ss) ks fits.gives) g (without ns (same_faults ns (s ∷ ss) faults ∙ none))))
+        ∙ ap (λ b. b || list_any is_outside (tested_calls grouping rows_kept)) (joined_fault (members_of where_) ns s ss ks worth comma (source_widths (s ∷ ss) ks fits.gives) g (without ns (same_faults ns (s ∷ ss) faults ∙ none))))
         (ap (has_item_outside items) (block_item_rows_are ns s ss ks where_ grouping fits worth comma) ∙ selected_outside items (item_rows grouping rows_kept))
 
     by_sources : (b : Bool) → list_any (λ s. has_range_fault s.answer) (s ∷ ss) ≡ b → (selected_node items (item_node grouping joined)).fault ≡ (b || ((too_long || list_any is_outside (tested_calls grouping rows_kept)) || values))

@@ -2,6 +2,7 @@
 use Rattle.std.proofs.Common.{◌≡◌, ℕ, List, [], ◌∷◌, ◌++◌, map, length, Bool, true, false, cond, not, ◌&&◌, Some, filter, refl, sym, ap, ap₂, ◌∙◌, arith, is_eq}
 use Rattle.std.specs.List.{AllByRecursion, flat_map, list_any}
 use Rattle.std.proofs.lemmas.List.{length-append, map-append, take_at}
+use Rattle.std.proofs.lemmas.Simd.{map-map}
 use Rattle.sq_value.specs.Order.{row_cmp}
 use Rattle.sq_value.specs.OrderLaws.{row_cmp-total, row_cmp-antisymmetric}
 use Rattle.sq_algebra.specs.Keyed.{numbers_below}
@@ -17,14 +18,17 @@ use Rattle.sq_expr.specs.Meaning.{column_of, columns_of, num}
 use Rattle.sq_expr.proofs.Equations.{num-Column}
 use Rattle.sq_expr.proofs.Lists.{all_flattened, all_weaker}
 use Rattle.sq_ops.specs.Rows.{Row, holds, items_of, padded}
+use Rattle.sq_ops.proofs.ListTies.{one_pair}
+use Rattle.sq_ops.proofs.RowColumns.{all_columns, columns_below}
 use Rattle.sq_typed.specs.From.{all_hold, matches, or_padded, outer}
 use Rattle.sq_typed.specs.Laws.{AreOfWidth}
 use Rattle.sq_typed.proofs.AnswerLemmas.{all_first}
+use Rattle.sq_typed.proofs.ColumnLemmas.{map_alike}
 use Rattle.sq_typed.proofs.Tests.{every}
 use Rattle.sq_bridge.specs.Joins.{first_columns, has_no_pair, joined_on, left_joined, same_rows, unpaired}
 use Rattle.sq_bridge.specs.Rows.{Rows, listed, padded_by, paired, projected}
-use Rattle.sq_bridge.proofs.Joining.{all_is, joins, loops_as, loops_on, one_pair, pair_if}
-use Rattle.sq_bridge.proofs.Lists.{all_columns, columns_below, filter_of_map, flat_map_agree, map_of_map, map_same}
+use Rattle.sq_bridge.proofs.Joining.{all_is, joins, loops_as, loops_on, pair_if}
+use Rattle.sq_bridge.proofs.Lists.{filter_of_map, flat_map_agree}
 
 -- ---- the first columns
 
@@ -32,7 +36,7 @@ pub front_columns : (w : ℕ) (row other : Row) → length row ≡ w → columns
 front_columns w row other e = columns_below w (row ++ other) (omega (arith, e, length-append row other)) ∙ take_at row other w e
 
 pub first_items : (w : ℕ) (row : Row) → items_of (first_columns w) row ≡ columns_of (numbers_below w) row
-first_items w row = map_of_map (λ e. num e row) expr.Column (numbers_below w) ∙ map_same (λ n. num (expr.Column n) row) (column_of row) (numbers_below w) (λ n. num-Column n row)
+first_items w row = map-map (λ e. num e row) expr.Column (numbers_below w) ∙ map_alike (λ n. num (expr.Column n) row) (column_of row) (numbers_below w) (λ n. num-Column n row)
 
 -- ---- rows that are the same
 

@@ -3,13 +3,13 @@ use Rattle.std.proofs.Common.{◌≡◌, ℕ, List, [], ◌∷◌, map, true, re
 use Rattle.sq_expr.specs.declared.cond.Cond.TheVariants as condition
 use Rattle.sq_ops.specs.Rows.{Row, holds, items_of}
 use Rattle.sq_ops.proofs.Extending.{test_is_keep}
+use Rattle.sq_ops.proofs.RowColumns.{all_columns}
 use Rattle.sq_zset.proofs.RowOperators.{image-of_list-map, keep_agree, keep_all}
 use Rattle.sq_typed.specs.Laws.{AreOfWidth}
 use Rattle.sq_bridge.specs.Joins.{first_columns}
 use Rattle.sq_bridge.specs.Rows.{Rows, kept_on_all, listed, projected}
 use Rattle.sq_bridge.proofs.Joining.{all_is}
 use Rattle.sq_bridge.proofs.LeftJoining.{first_items}
-use Rattle.sq_bridge.proofs.Lists.{all_columns}
 
 pub kept_on_none : (z : Rows) → kept_on_all [] z ≡ z
 kept_on_none z = test_is_keep (holds (condition.All [])) z ∙ keep_agree (holds (condition.All [])) (λ _. true) (all_is []) z ∙ keep_all z
