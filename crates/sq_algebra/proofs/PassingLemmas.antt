@@ -1,6 +1,7 @@
 -- All keys of a sum, a difference, a part, an image or a product pass a test, if all keys of its parts do.
 use Rattle.std.proofs.Common.{◌≡◌, List, [], ◌∷◌, get_or, Bool, true, false, ◌&&◌, cond, T, ℤ, pos, Ordering, Less, Equal, Greater, refl, sym, ap, subst, ◌∙◌}
 use Rattle.std.specs.Cmp.{IsTotalOrder}
+use mathlib.Core.Logic.{◌⊎◌, inl, inr}
 use Rattle.std.specs.FinMap.{IsAntisymmetric}
 use Rattle.std.specs.List.{AllByRecursion, filter, list_all}
 use Rattle.std.specs.Ordering.{match_ordering}
@@ -9,9 +10,11 @@ use Rattle.sq_algebra.specs.Keyed.{at_key}
 use Rattle.sq_algebra.specs.Listed.{count, in_order, place}
 use Rattle.sq_algebra.specs.Operators.{distinct, image, keep, product}
 use Rattle.sq_algebra.specs.Passing.{all_pass}
-use Rattle.sq_algebra.specs.ZSet.{ZSet, entries, minus, negate, of_list, plus}
+use Rattle.sq_algebra.specs.ZSet.{ZSet, entries, minus, negate, of_list, plus, weight, weight_in}
 use Rattle.sq_algebra.proofs.EachLemmas.{EachKey, each_key, each_pair, each-at_key, each-distinct, each-image, each-keep, each-minus, each-negate, each-plus, each-product}
 use Rattle.sq_algebra.proofs.EntryLemmas.{entries-keep}
+use Rattle.sq_algebra.proofs.KeyedLemmas.{found}
+use Rattle.sq_algebra.proofs.LinearLemmas.{entry_nonzero, entry_weight}
 use Rattle.sq_algebra.proofs.MemberLemmas.{entries-of_list}
 use Rattle.sq_algebra.proofs.Tests.{both, first, second}
 
@@ -65,6 +68,22 @@ module _ {K : Type 0} (p : K → Bool) where
 
     pub distinct_passes : (z : ZSet K R) → T (all_pass p z) → T (all_pass p (distinct z))
     distinct_passes z h = all_keys_pass (distinct z) (each-distinct Passes R o z (keys_pass z h))
+
+    -- ---- weights
+    -- all keys pass exactly if each key that fails has no weight
+    pub pass_from_weights : (z : ZSet K R) → ((k : K) → p k ≡ false → weight k z ≡ pos 0) → T (all_pass p z)
+    pass_from_weights z none = all_keys_pass z (λ i d low. passes (get_or (entries z) i d).0 (λ no. entry_nonzero R z i d low (sym (entry_weight R o z i d low) ∙ no)))
+      where
+        passes : (k : K) → (weight k z ≡ pos 0 → ⊥) → T (p k)
+        passes k some = elim (p k) as (λ b. p k ≡ b → T b) [ true ↦ λ _. tt | false ↦ λ e. absurd (some (none k e)) ] refl
+
+    pub weights_from_pass : (identical : IsAntisymmetric R) (z : ZSet K R) → T (all_pass p z) → (k : K) → p k ≡ false → weight k z ≡ pos 0
+    unfolding weight
+    weights_from_pass identical z h k e = step (found R o identical R o identical (λ k. k) k (T (p k)) (entries z) (λ i d low same. subst Passes (sym (identical k (get_or (entries z) i d).0 same)) (keys_pass z h i d low)))
+      where
+        step : (weight_in R k (entries z) ≡ pos 0) ⊎ T (p k) → weight_in R k (entries z) ≡ pos 0
+        step (inl none) = none
+        step (inr passes) = absurd (subst T e passes)
 
     -- ---- lists
     module _ (identical : IsAntisymmetric R) where

@@ -1,12 +1,12 @@
 //! Z-sets whose keys all pass a test.
 
-ghost use Rattle.std.specs.Prelude.{◌≡◌, ℕ, List, Bool, IsTrue};
+ghost use Rattle.std.specs.Prelude.{◌≡◌, ◌↔◌, ℕ, List, Bool, IsTrue, false, pos};
 ghost use Rattle.std.specs.List.{list_all};
 ghost use Rattle.sq_algebra.specs.Orders.{IsOrder, Order};
 ghost use Rattle.sq_algebra.specs.Keyed.{Shards, at_key, cut};
 ghost use Rattle.sq_algebra.specs.Operators.{distinct, image, keep, product};
 ghost use Rattle.sq_algebra.specs.Passing.{PairsPass, all_pass};
-ghost use Rattle.sq_algebra.specs.ZSet.{ZSet, minus, negate, of_list, plus};
+ghost use Rattle.sq_algebra.specs.ZSet.{ZSet, minus, negate, of_list, plus, weight};
 
 /// All keys of a list's Z-set pass a test exactly if all members of the list do.
 /// In short: `∀ k ∈ [xs]: p(k)` exactly if `∀ x ∈ xs: p(x)`.
@@ -46,4 +46,10 @@ pub fn images_pass<K: Ord, L: Ord>()
 pub fn products_pass<J: Ord, K: Ord, L: Ord>()
     ensures { (p : J → Bool) (r : K → Bool) (q : L → Bool) (f : J → K → List L) → PairsPass p r q f
         → (y : ZSet J J.cmp) (z : ZSet K K.cmp) → IsTrue (all_pass p y) → IsTrue (all_pass r z) → IsTrue (all_pass q (product L.cmp f y z)) }
+{}
+
+/// All keys of a Z-set pass a test exactly if each key that fails it has no weight.
+/// In short: `∀ k ∈ z: p(k)` exactly if `z(k) = 0` for each `k` with `¬p(k)`.
+pub fn tests_by_weights<K: Ord>()
+    ensures { IsOrder K.cmp → (p : K → Bool) (z : ZSet K K.cmp) → IsTrue (all_pass p z) ↔ ((k : K) → p k ≡ false → weight k z ≡ pos 0) }
 {}

@@ -21,6 +21,7 @@ use Rattle.sq_expr.proofs.Rows.{integers_are_bigints}
 use Rattle.sq_algebra.specs.Keyed.{numbers_below}
 use Rattle.sq_ops.specs.Rows.{items_of, number_in}
 use Rattle.sq_ops.proofs.Ranges.{item_inside}
+use Rattle.sq_ops.proofs.RowColumns.{plain_items}
 use Rattle.sq_typed.specs.declared.query.FromJoin.{FromJoin}
 use Rattle.sq_typed.specs.declared.query.FromJoin.TheVariants.{Comma, Inner, Left}
 use Rattle.sq_typed.specs.declared.query.Grouping.{Grouping}
@@ -41,7 +42,6 @@ use Rattle.sq_bridge.specs.Queries.{both_of, chain_node, set_result, step_node}
 use Rattle.sq_bridge.specs.Rows.{Rows, listed}
 use Rattle.sq_bridge.proofs.Combining.{chain_step, common_step}
 use Rattle.sq_bridge.proofs.Grouping.{projected_is, values_at}
-use Rattle.sq_bridge.proofs.LeftJoining.{first_items}
 use Rattle.sq_bridge.proofs.Meaningful.{BlockFits, block_calls_suit, block_item_rows_are, block_rows_are}
 use Rattle.sq_bridge.proofs.Ranging.{crowded_is, group_sums_outside, items_outside, outside_number, selected_outside}
 use Rattle.sq_typed.proofs.Sorting.{source_widths}
@@ -75,7 +75,7 @@ fronts_inside : (w : ℕ) (kinds : List Kind) (rows : List Row) → AreAllOfKind
 fronts_inside w kinds rows h =
     items_outside (first_columns w) rows
     ∙ none_of_all (λ row. list_any is_outside (items_of (first_columns w) row)) rows
-    (all_weaker (λ row. AreOfKinds row kinds) (λ row. list_any is_outside (items_of (first_columns w) row) ≡ false) rows (λ row r. ap (list_any is_outside) (first_items w row) ∙ columns_inside row kinds (numbers_below w) r) h)
+    (all_weaker (λ row. AreOfKinds row kinds) (λ row. list_any is_outside (items_of (first_columns w) row) ≡ false) rows (λ row r. ap (list_any is_outside) (plain_items (numbers_below w) row) ∙ columns_inside row kinds (numbers_below w) r) h)
 
 -- ---- one more source
 

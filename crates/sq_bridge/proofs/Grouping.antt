@@ -21,7 +21,6 @@ use Rattle.sq_expr.specs.Extremes.{greatest_or_null, least_or_null}
 use Rattle.sq_expr.specs.Meaning.{column_of, columns_of, is_null, num, of_both, sum_of}
 use Rattle.sq_expr.specs.Typing.{IsOfSort}
 use Rattle.sq_expr.specs.declared.typing.Sort.TheVariants.{Numeric}
-use Rattle.sq_expr.proofs.Equations.{num-Column}
 use Rattle.sq_expr.proofs.Lists.{all_weaker}
 use Rattle.sq_expr.proofs.Shifts.{column_behind}
 use Rattle.sq_ops.specs.Aggregates.{aggregated, group_of, has_value, number_at, number_or_zero}
@@ -30,6 +29,7 @@ use Rattle.sq_ops.specs.Rows.{items_of}
 use Rattle.sq_ops.specs.Wholes.{has_no_values}
 use Rattle.sq_ops.proofs.Indexing.{equals_itself}
 use Rattle.sq_ops.proofs.ListTies.{all_of_list, groups_of_list}
+use Rattle.sq_ops.proofs.RowColumns.{plain_items}
 use Rattle.sq_typed.specs.declared.query.BlockCall.{BlockCall}
 use Rattle.sq_typed.specs.declared.query.Grouping.{Grouping}
 use Rattle.sq_typed.specs.Blocks.{call_value, group_row, groups, is_sum, item_rows, present, selected, sum_or_null, without_repeats}
@@ -145,7 +145,7 @@ pub projected_is : (g : Grouping) (row : Row) → items_of (group_items g) row �
 projected_is g row =
     map-append (λ e. num e row) (map expr.Column g.columns) (argument_items g.calls)
     ∙ ap (λ front. front ++ values_at (argument_items g.calls) row)
-    (map-map (λ e. num e row) expr.Column g.columns ∙ map_alike (λ n. num (expr.Column n) row) (column_of row) g.columns (λ n. num-Column n row))
+    (plain_items g.columns row)
 
 first_ones : (columns : List ℕ) → cond (has_no_values columns) [] (numbers_below (length columns)) ≡ numbers_below (length columns)
 first_ones [] = refl

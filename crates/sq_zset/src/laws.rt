@@ -1,5 +1,5 @@
 //! Laws of Z-sets of rows, each as the contract of a function that does nothing.
-ghost use Rattle.std.specs.Prelude.{◌≡◌, ◌≤◌, ◌+◌, ◌*◌, ◌^◌, ℤ, List, ◌++◌, length, Bool, pos, neg_ℤ, ◌+ℤ◌, ◌-ℤ◌, map, if◌then◌else◌};
+ghost use Rattle.std.specs.Prelude.{◌≡◌, ◌↔◌, ◌≤◌, unsigned_abs, ◌+◌, ◌*◌, ◌^◌, ℤ, List, ◌++◌, length, Bool, pos, neg_ℤ, ◌+ℤ◌, ◌-ℤ◌, map, if◌then◌else◌};
 ghost use Rattle.std.specs.List.{filter, flat_map, list_all};
 ghost use Rattle.std.specs.Ordering.{is_eq};
 ghost use Rattle.sq_value.specs.declared.value.Value.{Value as Datum};
@@ -74,6 +74,11 @@ pub fn masses_of_rows()
     ensures product { (f : List Datum → List Datum → List (List Datum)) → GivesAtMostOne f
         → (y z : Weighted (List Datum) row_cmp) → mass_of (entries (product row_cmp f y z)) ≤ mass_of (entries y) * mass_of (entries z) }
     ensures in_range { (z : Weighted (List Datum) row_cmp) → mass_of (entries z) ≤ 2 ^ 62 → IsInRange z }
+{}
+
+/// All weights of a Z-set lie in their range exactly if that of each row does.
+pub fn ranges_by_weights()
+    ensures { (z : Weighted (List Datum) row_cmp) → IsInRange z ↔ ((row : List Datum) → unsigned_abs (weight row z) ≤ 2 ^ 62) }
 {}
 
 /// Images of rows, the rows that pass a test, the rows with a key, and products, in each of their sides, are additive.
