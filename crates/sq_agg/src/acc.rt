@@ -101,7 +101,7 @@ impl Acc {
 
 impl Group for Acc {
     ghost use Rattle.std.specs.Ordering.{nat_cmp};
-    ghost use Rattle.sq_agg.specs.GroupLaws.{accumulators_are_abelian};
+    ghost use Rattle.sq_agg.specs.GroupLaws.{accumulators_are_abelian, nothing_is_in_range};
     ghost use Rattle.sq_algebra.specs.Groups.{z_sets};
 
     ghost addition = { z_sets nat_cmp };
@@ -142,4 +142,6 @@ impl Group for Acc {
     }
 
     ghost laws = { accumulators_are_abelian };
+
+    ghost zero_in_range = { nothing_is_in_range };
 }

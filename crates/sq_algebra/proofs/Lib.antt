@@ -21,3 +21,5 @@ pub mod JoinLemmas
 pub mod EntryLemmas
 pub mod PaddingLemmas
 pub mod PassingLemmas
+pub mod EachLemmas
+pub mod AnyLemmas

@@ -1,7 +1,7 @@
 -- Z-sets without weights below 0: they are the Z-sets of lists, and the operators keep them so.
 use Rattle.std.proofs.Common.{◌≡◌, ℕ, zero, suc, ◌≤◌, List, Bool, true, false, cond, ℤ, pos, negsuc, ◌+ℤ◌, ◌≤ℤ◌, nat_abs, replicate, length, get_or, filter, refl, sym, ap, ap₂, subst, ◌∙◌, arith, Ordering, is_eq}
 use Rattle.std.specs.Prelude.{int_lt}
-use Rattle.std.specs.List.{flat_map}
+use Rattle.std.specs.List.{flat_map, list_all}
 use Rattle.std.specs.Cmp.{IsTotalOrder}
 use Rattle.std.specs.FinMap.{IsAntisymmetric}
 use Rattle.std.proofs.lemmas.List.Sums.{count_by-le-length, length-filter}
@@ -10,6 +10,8 @@ use Rattle.sq_algebra.specs.Listed.{count}
 use Rattle.sq_algebra.specs.ZSet.{ZSet, entries, single, of_list, weight, total, plus as plus_keys}
 use Rattle.sq_algebra.specs.Groups.{z_sets, multiple, times, sum_over}
 use Rattle.sq_algebra.specs.Operators.{keep, distinct, image, product, IsNonNegative, repeated}
+use Rattle.sq_algebra.specs.Passing.{all_pass}
+use Rattle.sq_algebra.proofs.PassingLemmas.{list_passes}
 use Rattle.sq_algebra.proofs.Weights.{weight-plus, weight-of_list, total-of_list}
 use Rattle.sq_algebra.proofs.GroupLemmas.{sum_over_agree_at}
 use Rattle.sq_algebra.proofs.LinearLemmas.{lin-entries, lin_of_singles, of_list_is, entry_weight}
@@ -60,6 +62,10 @@ module _ {K : Type 0} (R : K → K → Ordering) (o : IsTotalOrder R) where
     -- the total counts the members of the list
     pub total-repeated : (z : ZSet K R) → IsNonNegative z → total z ≡ pos (length (repeated z))
     total-repeated z proper = ap total (sym (of_list-repeated identical z proper)) ∙ total-of_list R o (repeated z)
+
+    -- all its members pass a test exactly if all keys do
+    pub list_all-repeated : (p : K → Bool) (z : ZSet K R) → IsNonNegative z → list_all p (repeated z) ≡ all_pass p z
+    list_all-repeated p z proper = sym (list_passes p R o identical (repeated z)) ∙ ap (all_pass p) (of_list-repeated identical z proper)
 
     -- no weight is above the total
     pub weight-le-total : (k : K) (z : ZSet K R) → IsNonNegative z → weight k z ≤ℤ total z

@@ -1,15 +1,18 @@
 -- The operators on Z-sets as linear extensions, and what they do to weights, sums, and one another.
-use Rattle.std.proofs.Common.{◌≡◌, List, [], ◌∷◌, map, Bool, true, false, cond, not, ◌&&◌, ℤ, pos, ◌+ℤ◌, ◌*ℤ◌, filter, refl, sym, ap, ap₂, ◌∙◌, arith, Ordering, is_eq}
+use Rattle.std.proofs.Common.{◌≡◌, ◌+◌, List, [], ◌∷◌, map, Bool, true, false, cond, not, ◌&&◌, ℤ, pos, ◌+ℤ◌, ◌*ℤ◌, filter, refl, sym, ap, ap₂, ◌∙◌, arith, Ordering, is_eq}
 use Rattle.std.specs.List.{flat_map}
 use Rattle.std.specs.Cmp.{IsTotalOrder}
 use Rattle.std.specs.FinMap.{IsAntisymmetric}
 use Rattle.std.proofs.lemmas.List.Concat.{flat_map_single}
 use borrow.Author.Differences.{ints}
+use Rattle.std.proofs.lemmas.Cmp.{tied_itself}
+use Rattle.sq_algebra.specs.Listed.{count}
 use Rattle.sq_algebra.specs.ZSet.{ZSet, entries, zero as no_keys, single, of_list, from_pairs, weight, plus as plus_keys, minus as minus_keys}
 use Rattle.sq_algebra.specs.Groups.{AbelianGroup, IsAbelian, integers, z_sets, times, sum_over, IsAdditive}
 use Rattle.sq_algebra.specs.Operators.{lin, weighing, keep, image, product}
 use Rattle.sq_algebra.proofs.Tests.{equal}
-use Rattle.sq_algebra.proofs.Weights.{weight-zero, weight-single, weight-plus, same_weights}
+use Rattle.sq_algebra.proofs.Lists.{count-cons}
+use Rattle.sq_algebra.proofs.Weights.{weight-zero, weight-single, weight-plus, weight-of_list, same_weights}
 use Rattle.sq_algebra.proofs.GroupLemmas.{bilinear_change, integers-IsAbelian, z_sets-IsAbelian, times-times, times_of_zero, IsAdditive_same, additive-zero, sum_over_agree, sum_over-map, sum_over-flat_map, sum_over-filter, sum_over-times}
 use Rattle.sq_algebra.proofs.LinearLemmas.{lin_of, lin-zero, lin-single, lin-IsAdditive, lin-of_list, lin_agree, lin_of_zero, lin_inside, weight_is, weight-IsAdditive, from_pairs_is, of_list_is, lin-swap, lin-lin}
 
@@ -70,6 +73,40 @@ module _ {L : Type 0} (U : L → L → Ordering) (o : IsTotalOrder U) (identical
         ap (lin G h) (image_is z)
         ∙ lin-lin R p same U o identical G laws h (λ k. of_list U (f k)) z
         ∙ lin_agree R p same G laws (λ k. lin G h (of_list U (f k))) (λ k. sum_over G h (f k)) (λ k. lin-of_list U o identical G laws h (f k)) z
+
+    -- a key has the weight of each key that it is an image of, as often as it is one
+    pub weight-image : (l : L) (z : ZSet K R) → weight l (image U f z) ≡ lin integers (λ k. pos (count U l (f k))) z
+    weight-image l z =
+        ap (weight l) (image_is z)
+        ∙ lin_inside R p same (z_sets U) sums integers integers-IsAbelian (weight l) (weight-IsAdditive U o l) (λ k. of_list U (f k)) z
+        ∙ lin_agree R p same integers integers-IsAbelian (λ k. weight l (of_list U (f k))) (λ k. pos (count U l (f k))) (λ k. weight-of_list U o l (f k)) z
+
+  -- and if each key has one image, and no two the same, the weight stays
+  module _ {K : Type 0} (R : K → K → Ordering) (p : IsTotalOrder R) (same : IsAntisymmetric R) (g : K → L) (apart : (j k : K) → g j ≡ g k → j ≡ k) where
+    same_mark : (k j : K) → is_eq (U (g k) (g j)) ≡ is_eq (R k j)
+    same_mark k j = step (is_eq (R k j)) refl
+      where
+        step : (b : Bool) → is_eq (R k j) ≡ b → is_eq (U (g k) (g j)) ≡ b
+        step true e = ap (λ i. is_eq (U (g k) (g i))) (sym (same k j (equal (R k j) e))) ∙ ap is_eq (tied_itself o (g k))
+        step false e = differs (is_eq (U (g k) (g j))) refl
+          where
+            differs : (b : Bool) → is_eq (U (g k) (g j)) ≡ b → is_eq (U (g k) (g j)) ≡ false
+            differs true t =
+                let tied : is_eq (R k j) ≡ true = ap (λ i. is_eq (R k i)) (sym (apart k j (identical (g k) (g j) (equal (U (g k) (g j)) t)))) ∙ ap is_eq (tied_itself p k) in
+                absurd (cc (tied, e))
+            differs false t = t
+
+    pub weight-injective : (k : K) (z : ZSet K R) → weight (g k) (image U (λ j. g j ∷ []) z) ≡ weight k z
+    weight-injective k z =
+        weight-image R p same (λ j. g j ∷ []) (g k) z
+        ∙ lin_agree R p same integers integers-IsAbelian (λ j. pos (count U (g k) (g j ∷ []))) (λ j. cond (is_eq (R k j)) (pos 1) (pos 0)) marked z
+        ∙ sym (weight_is R k z)
+      where
+        marked : (j : K) → pos (count U (g k) (g j ∷ [])) ≡ cond (is_eq (R k j)) (pos 1) (pos 0)
+        marked j =
+            ap pos (count-cons U (g k) (g j) [])
+            ∙ ap (λ b. pos (cond b 1 0 + 0)) (same_mark k j)
+            ∙ elim (is_eq (R k j)) as (λ b. ◌≡◌ {A = ℤ} (pos (cond b 1 0 + 0)) (cond b (pos 1) (pos 0))) [ true ↦ refl | false ↦ refl ]
 
   -- a key that is replaced by one other
   pub image-of_list-map : {K : Type 0} (R : K → K → Ordering) (p : IsTotalOrder R) (same : IsAntisymmetric R) (g : K → L) (xs : List K) → image U (λ k. g k ∷ []) (of_list R xs) ≡ of_list U (map g xs)

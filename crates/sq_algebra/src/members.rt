@@ -4,7 +4,7 @@ ghost use Rattle.std.specs.Prelude.{◌≡◌, ℤ, pos, neg_ℤ, List, [], ◌�
 ghost use Rattle.std.specs.List.{Any, Contains, filter, flat_map, list_any};
 ghost use Rattle.std.specs.Ordering.{is_eq};
 ghost use Rattle.sq_algebra.specs.Orders.{IsOrder, Order};
-ghost use Rattle.sq_algebra.specs.Listed.{count, in_order};
+ghost use Rattle.sq_algebra.specs.Listed.{count, first_of_each, in_order};
 ghost use Rattle.sq_algebra.specs.ZSet.{ZSet, entries, from_pairs, of_list, weight, negate};
 ghost use Rattle.sq_algebra.specs.Groups.{z_sets, sum_over};
 ghost use Rattle.sq_algebra.specs.Operators.{keep, distinct};
@@ -47,4 +47,13 @@ pub fn some_member<X>()
     ensures joined { (p : X → Bool) (xs ys : List X) → Any (λ x. IsTrue (p x)) (xs ++ ys) ↔ (Any (λ x. IsTrue (p x)) xs ⊎ Any (λ x. IsTrue (p x)) ys) }
     ensures member { (p : X → Bool) (xs : List X) (x : X) → Contains xs x → IsTrue (p x) → Any (λ x. IsTrue (p x)) xs }
     ensures test { (p : X → Bool) (xs : List X) → IsTrue (list_any p xs) ↔ Any (λ x. IsTrue (p x)) xs }
+{}
+
+/// Some member of a list passes a test exactly if some one of the list in order does, some one of the list without repeats,
+/// and some key of its Z-set.
+/// In short: `∃ x ∈ xs: p(x)` exactly if `∃ k ∈ [xs]: p(k)`.
+pub fn some_member_of_a_list<K: Ord>()
+    ensures ordered { IsOrder K.cmp → (p : K → Bool) (xs : List K) → list_any p (in_order K.cmp xs) ≡ list_any p xs }
+    ensures first { IsOrder K.cmp → (p : K → Bool) (xs : List K) → list_any p (first_of_each K.cmp xs) ≡ list_any p xs }
+    ensures key { IsOrder K.cmp → (p : K → Bool) (xs : List K) → list_any (λ e. p e.0) (entries (of_list K.cmp xs)) ≡ list_any p xs }
 {}

@@ -1,17 +1,21 @@
 //! Z-sets without weights below 0.
 
 ghost use Rattle.std.specs.Prelude.{◌≡◌, pos, ◌≤ℤ◌, List, length, Bool};
+ghost use Rattle.std.specs.List.{list_all};
 ghost use Rattle.sq_algebra.specs.Orders.{IsOrder, TwoOrders, ThreeOrders};
 ghost use Rattle.sq_algebra.specs.ZSet.{ZSet, of_list, weight, total, plus};
 ghost use Rattle.sq_algebra.specs.Operators.{image, keep, distinct, product, IsNonNegative, repeated};
+ghost use Rattle.sq_algebra.specs.Passing.{all_pass};
 
 /// A Z-set without weights below 0 is that of a list: of its keys, each as often as its weight says. Its total is the
-/// length of this list.
-/// In short: if `z ≥ 0`, there is a list `xs` with `[xs] = z` and `length(xs) = |z|`.
+/// length of this list, and all members of this list pass a test exactly if all its keys do.
+/// In short: if `z ≥ 0`, there is a list `xs` with `[xs] = z` and `length(xs) = |z|`, and `p(x)` for each `x` of it exactly
+/// if `p(k)` for each key `k` of `z`.
 pub fn nonnegative_is_a_list<K: Ord>()
     ensures list { (xs : List K) → IsNonNegative (of_list K.cmp xs) }
     ensures repeated { IsOrder K.cmp → (z : ZSet K K.cmp) → IsNonNegative z → of_list K.cmp (repeated z) ≡ z }
     ensures total { IsOrder K.cmp → (z : ZSet K K.cmp) → IsNonNegative z → total z ≡ pos (length (repeated z)) }
+    ensures test { IsOrder K.cmp → (p : K → Bool) (z : ZSet K K.cmp) → IsNonNegative z → list_all p (repeated z) ≡ all_pass p z }
 {}
 
 /// The operators give no weight below 0 if they are given none.

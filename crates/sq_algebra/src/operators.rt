@@ -1,7 +1,8 @@
 //! Operators on one Z-set: the images of its keys, the keys that pass a test, and the keys with a weight above 0.
 
-ghost use Rattle.std.specs.Prelude.{◌≡◌, pos, ◌+ℤ◌, ◌-ℤ◌, List, [], map, length, Bool, true, false, not, ◌&&◌, ◌⊎◌, if◌then◌else◌};
+ghost use Rattle.std.specs.Prelude.{◌≡◌, pos, ◌+ℤ◌, ◌-ℤ◌, List, [], ◌∷◌, map, length, Bool, true, false, not, ◌&&◌, ◌⊎◌, if◌then◌else◌};
 ghost use Rattle.std.specs.List.{filter, flat_map};
+ghost use Rattle.sq_algebra.specs.Listed.{count};
 ghost use Rattle.sq_algebra.specs.Orders.{IsOrder, TwoOrders, ThreeOrders};
 ghost use Rattle.sq_algebra.specs.ZSet.{ZSet, entries, zero, single, from_pairs, of_list, weight, total, plus, minus};
 ghost use Rattle.sq_algebra.specs.Groups.{AbelianGroup, IsAbelian, IsAdditive, integers, z_sets, sum_over};
@@ -24,6 +25,14 @@ pub fn images_follow_each_other<K: Ord, L: Ord, M: Ord, A>()
     ensures after_test { TwoOrders K.cmp L.cmp → (f : K → List L) (p : K → Bool) (z : ZSet K K.cmp) → image L.cmp f (keep p z) ≡ image L.cmp (λ k. if p k then f k else []) z }
     ensures before_test { TwoOrders K.cmp L.cmp → (p : L → Bool) (f : K → List L) (z : ZSet K K.cmp) → keep p (image L.cmp f z) ≡ image L.cmp (λ k. filter p (f k)) z }
     ensures linear { TwoOrders K.cmp L.cmp → (f : K → List L) (G : AbelianGroup A) → IsAbelian G → (h : L → A) (z : ZSet K K.cmp) → lin G h (image L.cmp f z) ≡ lin G (λ k. sum_over G h (f k)) z }
+{}
+
+/// A key has in an image the weight of each key that it is an image of, as often as it is one; so if each key has one image,
+/// and no two have the same, each image has the weight of its key.
+/// In short: `f(z)(l) = Σ_k z(k) #_l(f(k))`, and `g(z)(g(k)) = z(k)` if `g(j) = g(k)` gives `j = k`.
+pub fn weights_of_images<K: Ord, L: Ord>()
+    ensures all { TwoOrders K.cmp L.cmp → (f : K → List L) (l : L) (z : ZSet K K.cmp) → weight l (image L.cmp f z) ≡ lin integers (λ k. pos (count L.cmp l (f k))) z }
+    ensures injective { TwoOrders K.cmp L.cmp → (g : K → L) → ((j k : K) → g j ≡ g k → j ≡ k) → (k : K) (z : ZSet K K.cmp) → weight (g k) (image L.cmp (λ j. g j ∷ []) z) ≡ weight k z }
 {}
 
 /// The keys that pass a test: their weights, and that keeping them is linear.

@@ -7,6 +7,7 @@ use Rattle.std.proofs.lemmas.List.Folds.{list_any-append}
 use Rattle.sq_value.specs.declared.value.Value.{Value}
 use Rattle.sq_value.specs.declared.value.Value.TheVariants.{Null, Int, Text}
 use Rattle.sq_ast.specs.declared.query.SetOp.{SetOp}
+use Rattle.sq_algebra.proofs.AnyLemmas.{any_flat, any_mapped, any_of_both, any_same, any_swapped, find_is, none_of_all, or_assoc, or_false}
 use Rattle.sq_expr.specs.declared.cond.Cond.{Cond}
 use Rattle.sq_expr.specs.declared.expr.Expr.{Expr}
 use Rattle.sq_expr.specs.declared.expr.Kind.{Kind}
@@ -20,6 +21,7 @@ use Rattle.sq_expr.proofs.Rows.{integers_are_bigints}
 use Rattle.sq_algebra.specs.Keyed.{numbers_below}
 use Rattle.sq_ops.specs.Rows.{items_of, number_in}
 use Rattle.sq_ops.proofs.Ranges.{item_inside}
+use Rattle.sq_ops.proofs.RowColumns.{plain_items}
 use Rattle.sq_typed.specs.declared.query.FromJoin.{FromJoin}
 use Rattle.sq_typed.specs.declared.query.FromJoin.TheVariants.{Comma, Inner, Left}
 use Rattle.sq_typed.specs.declared.query.Grouping.{Grouping}
@@ -40,10 +42,9 @@ use Rattle.sq_bridge.specs.Queries.{both_of, chain_node, set_result, step_node}
 use Rattle.sq_bridge.specs.Rows.{Rows, listed}
 use Rattle.sq_bridge.proofs.Combining.{chain_step, common_step}
 use Rattle.sq_bridge.proofs.Grouping.{projected_is, values_at}
-use Rattle.sq_bridge.proofs.LeftJoining.{first_items}
 use Rattle.sq_bridge.proofs.Meaningful.{BlockFits, block_calls_suit, block_item_rows_are, block_rows_are}
-use Rattle.sq_bridge.proofs.Ranging.{any_flat, any_mapped, any_of_both, any_same, any_swapped, crowded_is, find_is, group_sums_outside, items_outside, none_of_all, or_assoc, or_false, outside_number, selected_outside}
-use Rattle.sq_bridge.proofs.Sorting.{sources_widths}
+use Rattle.sq_bridge.proofs.Ranging.{crowded_is, group_sums_outside, items_outside, outside_number, selected_outside}
+use Rattle.sq_typed.proofs.Sorting.{source_widths}
 use Rattle.sq_bridge.proofs.Staging.{first_holds, first_rows_are, joined_rows_are, next_holds, on_pairs_are, same_widths}
 
 -- ---- what is of its kind is inside
@@ -74,7 +75,7 @@ fronts_inside : (w : ℕ) (kinds : List Kind) (rows : List Row) → AreAllOfKind
 fronts_inside w kinds rows h =
     items_outside (first_columns w) rows
     ∙ none_of_all (λ row. list_any is_outside (items_of (first_columns w) row)) rows
-    (all_weaker (λ row. AreOfKinds row kinds) (λ row. list_any is_outside (items_of (first_columns w) row) ≡ false) rows (λ row r. ap (list_any is_outside) (first_items w row) ∙ columns_inside row kinds (numbers_below w) r) h)
+    (all_weaker (λ row. AreOfKinds row kinds) (λ row. list_any is_outside (items_of (first_columns w) row) ≡ false) rows (λ row r. ap (list_any is_outside) (plain_items (numbers_below w) row) ∙ columns_inside row kinds (numbers_below w) r) h)
 
 -- ---- one more source
 
@@ -306,7 +307,7 @@ module _ (ns : List NodeSource) (s : Source) (ss : List Source) (ks : List Kinde
         let g = good none in
         ap₂ (λ a b. a || b)
         (items_fault grouping joined rows_kept (flat_map (λ k. k) (map (λ k. k.kinded.kinds) ks)) (block_rows_are ns s ss ks where_ grouping fits worth comma) (kept_kinds g) (block_calls_suit ns s ss ks where_ grouping fits worth comma)
-        ∙ ap (λ b. b || list_any is_outside (tested_calls grouping rows_kept)) (joined_fault (members_of where_) ns s ss ks worth comma (sources_widths (s ∷ ss) ks fits.gives) g (without ns (same_faults ns (s ∷ ss) faults ∙ none))))
+        ∙ ap (λ b. b || list_any is_outside (tested_calls grouping rows_kept)) (joined_fault (members_of where_) ns s ss ks worth comma (source_widths (s ∷ ss) ks fits.gives) g (without ns (same_faults ns (s ∷ ss) faults ∙ none))))
         (ap (has_item_outside items) (block_item_rows_are ns s ss ks where_ grouping fits worth comma) ∙ selected_outside items (item_rows grouping rows_kept))
 
     by_sources : (b : Bool) → list_any (λ s. has_range_fault s.answer) (s ∷ ss) ≡ b → (selected_node items (item_node grouping joined)).fault ≡ (b || ((too_long || list_any is_outside (tested_calls grouping rows_kept)) || values))

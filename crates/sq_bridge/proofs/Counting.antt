@@ -29,9 +29,9 @@ use Rattle.sq_typed.proofs.Trees.{QueryCases, each_query}
 use Rattle.sq_typed.proofs.WhereLemmas.{where_keeps_the_last}
 use Rattle.sq_expr.proofs.Lists.{all_back}
 use Rattle.sq_bridge.specs.Meaning.{HasFewRows}
-use Rattle.sq_bridge.specs.Sorts.{HoldsSorts}
+use Rattle.sq_typed.specs.Sorts.{HoldsSorts}
 use Rattle.sq_bridge.proofs.Blaming.{chain_answer_fault}
-use Rattle.sq_bridge.proofs.Sorting.{all_widths, sources_sorts, sources_widths}
+use Rattle.sq_typed.proofs.Sorting.{width_of_sources, sources_sorts, source_widths}
 
 -- ---- blocks
 
@@ -106,11 +106,11 @@ module _ (relations : List Contents) (kss : List (List Kind)) (holds : Pairwise 
       let gives = sources_sorts relations kss holds (s ∷ xs) (and_right (has_some ks) (sources_fit [] ks) (and_left (has_some ks && sources_fit [] ks) (clauses_fit (joined_kinds ks) where_ grouping items) fits)) in
       let filtered = and_left (may_suit (joined_kinds ks) where_) (may_group (joined_kinds ks) grouping && list_all (suits (item_row_kinds (joined_kinds ks) grouping)) items)
       (and_right (has_some ks && sources_fit [] ks) (clauses_fit (joined_kinds ks) where_ grouping items) fits) in
-      let narrow = subst (λ w. AllByRecursion (λ c. width_of (cond_columns c) ≤ w) (members_of where_)) (sym (all_widths ss ks gives)) (members_fit (joined_kinds ks) where_ filtered) in
+      let narrow = subst (λ w. AllByRecursion (λ c. width_of (cond_columns c) ≤ w) (members_of where_)) (sym (width_of_sources ss ks gives)) (members_fit (joined_kinds ks) where_ filtered) in
       let last = last_few (widths_of ss) (members_of where_) 1 ([] ∷ []) ss (omega arith)
       (all_back (λ rows. is_crowded rows ≡ false) (flat_map (λ s. s.answer.places) ss) (map (λ stage. stage.0) (stages (members_of where_) ss)) (in_range (block_answer is_distinct ss where_ grouping items) e).places) in
       block_few is_distinct ss where_ grouping items
-      (subst (λ rows. length rows ≤ 2 ^ 61) (sym (where_keeps_the_last (members_of where_) (source_of_item relations s) (map (source_of_item relations) xs) (sources_widths ss ks gives) narrow)) last)
+      (subst (λ rows. length rows ≤ 2 ^ 61) (sym (where_keeps_the_last (members_of where_) (source_of_item relations s) (map (source_of_item relations) xs) (source_widths ss ks gives) narrow)) last)
 
   few_cases : QueryCases OriginIsFew QueryIsFew
   few_cases = record {

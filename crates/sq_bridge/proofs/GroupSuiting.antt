@@ -27,7 +27,7 @@ use Rattle.sq_typed.proofs.FitTests.{suits_is}
 use Rattle.sq_typed.proofs.Tests.{and_left, and_right}
 use Rattle.sq_bridge.specs.Groups.{argument_items, behind, calls_from, group_items, group_spec, slot}
 use Rattle.sq_bridge.proofs.Meaningful.{third}
-use Rattle.sq_bridge.proofs.Sorting.{numeric_kind}
+use Rattle.sq_typed.proofs.Sorting.{numeric_kind}
 use Rattle.sq_bridge.proofs.Suiting.{below, columns_suit}
 
 -- ---- what is projected

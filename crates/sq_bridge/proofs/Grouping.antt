@@ -1,9 +1,10 @@
 -- Groups over expressions as a projection and an aggregate.
-use Rattle.std.proofs.Common.{◌≡◌, ℕ, suc, ◌-◌, ℤ, pos, List, [], ◌∷◌, ◌++◌, map, fold, length, Bool, true, false, cond, not, Option, Some, None, filter, refl, sym, subst, ap, ap₂, ◌∙◌, append_assoc, arith, is_eq}
+use Rattle.std.proofs.Common.{◌≡◌, ℕ, suc, ◌+◌, ℤ, pos, List, [], ◌∷◌, ◌++◌, map, fold, length, Bool, true, false, cond, not, Option, Some, None, filter, refl, sym, subst, ap, ap₂, ◌∙◌, append_assoc, arith, is_eq}
 use Rattle.std.proofs.lemmas.Int.{ints}
 use Rattle.std.specs.Prelude.{◌+ℤ◌, option_to_list}
 use Rattle.std.specs.List.{AllByRecursion, flat_map}
 use Rattle.std.proofs.lemmas.List.{length-append, map-append}
+use Rattle.std.proofs.lemmas.Simd.{map-map}
 use Rattle.sq_value.specs.declared.value.Value.{Value}
 use Rattle.sq_value.specs.declared.value.Value.TheVariants.{Null, Int, Text}
 use Rattle.sq_value.specs.Order.{row_cmp}
@@ -20,20 +21,22 @@ use Rattle.sq_expr.specs.Extremes.{greatest_or_null, least_or_null}
 use Rattle.sq_expr.specs.Meaning.{column_of, columns_of, is_null, num, of_both, sum_of}
 use Rattle.sq_expr.specs.Typing.{IsOfSort}
 use Rattle.sq_expr.specs.declared.typing.Sort.TheVariants.{Numeric}
-use Rattle.sq_expr.proofs.Equations.{num-Column}
 use Rattle.sq_expr.proofs.Lists.{all_weaker}
+use Rattle.sq_expr.proofs.Shifts.{column_behind}
 use Rattle.sq_ops.specs.Aggregates.{aggregated, group_of, has_value, number_at, number_or_zero}
 use Rattle.sq_ops.specs.Lists.{group_of_list, list_value, row_of_list, values_of}
 use Rattle.sq_ops.specs.Rows.{items_of}
 use Rattle.sq_ops.specs.Wholes.{has_no_values}
 use Rattle.sq_ops.proofs.Indexing.{equals_itself}
 use Rattle.sq_ops.proofs.ListTies.{all_of_list, groups_of_list}
+use Rattle.sq_ops.proofs.RowColumns.{plain_items}
 use Rattle.sq_typed.specs.declared.query.BlockCall.{BlockCall}
 use Rattle.sq_typed.specs.declared.query.Grouping.{Grouping}
 use Rattle.sq_typed.specs.Blocks.{call_value, group_row, groups, is_sum, item_rows, present, selected, sum_or_null, without_repeats}
 use Rattle.sq_typed.specs.Fit.{is_count_all}
 use Rattle.sq_typed.specs.From.{Row, members_of}
 use Rattle.sq_typed.proofs.AnswerLemmas.{all_first}
+use Rattle.sq_typed.proofs.ColumnLemmas.{map_alike}
 use Rattle.sq_typed.proofs.FitRows.{length_mapped}
 use Rattle.sq_typed.proofs.Tests.{all_filter, every, filter_same}
 use Rattle.sq_bridge.specs.Groups.{argument_items, behind, calls_from, group_items, group_rows, group_spec, item_node, once_node, slot}
@@ -42,7 +45,7 @@ use Rattle.sq_bridge.specs.Nodes.{Node}
 use Rattle.sq_bridge.specs.Rows.{kept_on_all, listed, projected}
 use Rattle.sq_bridge.proofs.Joining.{kept_all}
 use Rattle.sq_bridge.proofs.LeftJoining.{front_columns}
-use Rattle.sq_bridge.proofs.Lists.{column_behind, filter_of_map, flat_map_agree, map_of_map, map_same}
+use Rattle.sq_bridge.proofs.Lists.{filter_of_map, flat_map_agree}
 
 -- ---- sums
 
@@ -84,7 +87,7 @@ count_is n rows = sym (length_mapped (λ row. column_of row n) (filter (has_valu
 
 module _ (n : ℕ) (e : Expr) (g : Row → Row) (is : (row : Row) → column_of (g row) n ≡ num e row) (rows : List Row) where
   pub column_is : column_values n (map g rows) ≡ map (num e) rows
-  column_is = map_of_map (λ row. column_of row n) g rows ∙ map_same (λ row. column_of (g row) n) (num e) rows is
+  column_is = map-map (λ row. column_of row n) g rows ∙ map_alike (λ row. column_of (g row) n) (num e) rows is
 
   pub numbers_mapped : (rows : List Row) → AllByRecursion (λ row. IsOfSort Numeric (num e row)) rows → AllByRecursion (IsOfSort Numeric) (map (num e) rows)
   numbers_mapped [] h = tt
@@ -114,8 +117,8 @@ length_more row x n e = length-append row (x ∷ []) ∙ omega (arith, e)
 
 pub next_column : (front : Row) (x : Value) (rest : Row) (n : ℕ) → length front ≡ n → column_of (front ++ x ∷ rest) n ≡ x
 next_column front x rest n e =
-    let none : n - length front ≡ 0 = omega (arith, e) in
-    column_behind front (x ∷ rest) n (omega (arith, e)) ∙ ap (column_of (x ∷ rest)) none
+    let stands : n ≡ length front + 0 = omega (arith, e) in
+    ap (column_of (front ++ x ∷ rest)) stands ∙ column_behind front (x ∷ rest) 0
 
 module _ (g : Row → Row) (rows : List Row) where
   -- the calls read the arguments that stand behind n columns
@@ -142,7 +145,7 @@ pub projected_is : (g : Grouping) (row : Row) → items_of (group_items g) row �
 projected_is g row =
     map-append (λ e. num e row) (map expr.Column g.columns) (argument_items g.calls)
     ∙ ap (λ front. front ++ values_at (argument_items g.calls) row)
-    (map_of_map (λ e. num e row) expr.Column g.columns ∙ map_same (λ n. num (expr.Column n) row) (column_of row) g.columns (λ n. num-Column n row))
+    (plain_items g.columns row)
 
 first_ones : (columns : List ℕ) → cond (has_no_values columns) [] (numbers_below (length columns)) ≡ numbers_below (length columns)
 first_ones [] = refl
@@ -204,7 +207,7 @@ module _ (g : Grouping) (rows : List Row) (h : CallsSuit rows g.calls) where
       (every (λ row. is_eq (row_cmp k (group_of (group_spec g) (made row))) ≡ is_eq (row_cmp k (key_of_row row))) rows (λ row. ap (λ c. is_eq (row_cmp k c)) (key_is g row))))
 
   pub keys_are : map (group_of (group_spec g)) (map made rows) ≡ map key_of_row rows
-  keys_are = map_of_map (group_of (group_spec g)) made rows ∙ map_same (λ row. group_of (group_spec g) (made row)) key_of_row rows (key_is g)
+  keys_are = map-map (group_of (group_spec g)) made rows ∙ map_alike (λ row. group_of (group_spec g) (made row)) key_of_row rows (key_is g)
 
   one_group : (k : Row) → HasRows key_of_row rows k → group_of_list (group_spec g).calls k (members_at row_cmp (group_of (group_spec g)) k (map made rows)) ≡ group_row g.calls (k, found k) ∷ []
   one_group k some =
@@ -222,7 +225,7 @@ module _ (g : Grouping) (rows : List Row) (h : CallsSuit rows g.calls) where
       (all_weaker (HasRows key_of_row rows) (λ k. group_of_list (group_spec g).calls k (members_at row_cmp (group_of (group_spec g)) k (map made rows)) ≡ group_row g.calls (k, found k) ∷ []) (first_of_each row_cmp (map key_of_row rows)) one_group
       (all_first (HasRows key_of_row rows) (map key_of_row rows) (keys_have_rows key_of_row rows)))
       ∙ flat_of_singles (λ k. group_row g.calls (k, found k)) (first_of_each row_cmp (map key_of_row rows))
-      ∙ sym (map_of_map (group_row g.calls) (λ k. (k, found k)) (first_of_each row_cmp (map key_of_row rows)))
+      ∙ sym (map-map (group_row g.calls) (λ k. (k, found k)) (first_of_each row_cmp (map key_of_row rows)))
 
 aggregated_are : (columns : List ℕ) (g : Grouping) → g.columns ≡ columns → (rows : List Row) → CallsSuit rows g.calls → aggregated (group_spec g) (listed (map (items_of (group_items g)) rows)) ≡ listed (map (group_row g.calls) (groups columns rows))
 aggregated_are [] g e rows h =

@@ -17,22 +17,21 @@ use Rattle.sq_expr.specs.Meaning.{column_of, columns_of, num}
 use Rattle.sq_expr.proofs.Equations.{num-Column}
 use Rattle.sq_expr.proofs.Lists.{all_flattened, all_weaker}
 use Rattle.sq_ops.specs.Rows.{Row, holds, items_of, padded}
+use Rattle.sq_ops.proofs.ListTies.{one_pair}
+use Rattle.sq_ops.proofs.RowColumns.{all_columns, columns_below, plain_items}
 use Rattle.sq_typed.specs.From.{all_hold, matches, or_padded, outer}
 use Rattle.sq_typed.specs.Laws.{AreOfWidth}
 use Rattle.sq_typed.proofs.AnswerLemmas.{all_first}
 use Rattle.sq_typed.proofs.Tests.{every}
 use Rattle.sq_bridge.specs.Joins.{first_columns, has_no_pair, joined_on, left_joined, same_rows, unpaired}
 use Rattle.sq_bridge.specs.Rows.{Rows, listed, padded_by, paired, projected}
-use Rattle.sq_bridge.proofs.Joining.{all_is, joins, loops_as, loops_on, one_pair, pair_if}
-use Rattle.sq_bridge.proofs.Lists.{all_columns, columns_below, filter_of_map, flat_map_agree, map_of_map, map_same}
+use Rattle.sq_bridge.proofs.Joining.{all_is, joins, loops_as, loops_on, pair_if}
+use Rattle.sq_bridge.proofs.Lists.{filter_of_map, flat_map_agree}
 
 -- ---- the first columns
 
 pub front_columns : (w : ℕ) (row other : Row) → length row ≡ w → columns_of (numbers_below w) (row ++ other) ≡ row
 front_columns w row other e = columns_below w (row ++ other) (omega (arith, e, length-append row other)) ∙ take_at row other w e
-
-pub first_items : (w : ℕ) (row : Row) → items_of (first_columns w) row ≡ columns_of (numbers_below w) row
-first_items w row = map_of_map (λ e. num e row) expr.Column (numbers_below w) ∙ map_same (λ n. num (expr.Column n) row) (column_of row) (numbers_below w) (λ n. num-Column n row)
 
 -- ---- rows that are the same
 
@@ -105,7 +104,7 @@ module _ (w v : ℕ) (conds : List Cond) where
         ap (projected (first_columns w)) (loops_on w v conds rows others hw hv)
         ∙ image-of_list-map (items_of (first_columns w)) (pair_rows rows others)
         ∙ ap listed (fronts_of_rows (items_of (first_columns w)) others rows
-        (all_weaker (λ row. length row ≡ w) (λ row. (other : Row) → items_of (first_columns w) (row ++ other) ≡ row) rows (λ row e other. first_items w (row ++ other) ∙ front_columns w row other e) hw))
+        (all_weaker (λ row. length row ≡ w) (λ row. (other : Row) → items_of (first_columns w) (row ++ other) ≡ row) rows (λ row e other. plain_items (numbers_below w) (row ++ other) ∙ front_columns w row other e) hw))
 
     -- the rows that have a pair, by those in front of pairs
     found_are : paired (same_rows w) (listed rows) (distinct (projected (first_columns w) pairs)) ≡ meet (listed rows) (distinct (product row_cmp front_if (listed rows) (listed others)))

@@ -4,7 +4,6 @@ pub mod LeftJoining
 pub mod Staging
 pub mod Grouping
 pub mod Combining
-pub mod Sorting
 pub mod NodeEquations
 pub mod Meaningful
 pub mod Ranging

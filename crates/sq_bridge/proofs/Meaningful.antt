@@ -34,7 +34,8 @@ use Rattle.sq_typed.specs.Queries.{Contents, answer, chain_answer, intersect_ans
 use Rattle.sq_typed.specs.Within.{BlockOf}
 use Rattle.sq_typed.proofs.Equations.{answer-Block, answer-Chain, answer-Intersect, member-is, origin-Query, origin-Relation, source-is}
 use Rattle.sq_typed.proofs.FitEquations.{kinded-Block, kinded-Chain, kinded-Intersect, kinded-Query, kinded_source-is}
-use Rattle.sq_typed.proofs.FitQueries.{members_fit, pairwise_mapped}
+use Rattle.sq_typed.proofs.FitQueries.{members_fit}
+use Rattle.sq_typed.proofs.GivenRows.{pairwise_mapped}
 use Rattle.sq_typed.proofs.Tests.{and_left, and_right}
 use Rattle.sq_typed.proofs.Trees.{QueryCases, each_origin, each_query}
 use Rattle.sq_bridge.specs.Groups.{block_node, item_node, once_node, selected_node}
@@ -42,11 +43,11 @@ use Rattle.sq_bridge.specs.Meaning.{AreWorth, Begins, CallSuits, CallsSuit, Grou
 use Rattle.sq_bridge.specs.Nodes.{Node, NodeSource, joined_node, no_node}
 use Rattle.sq_bridge.specs.Queries.{both_of, chain_node, intersect_node, member_node, origin_node, query_node, relation_node, set_result, source_node, step_node}
 use Rattle.sq_bridge.specs.Rows.{listed, projected}
-use Rattle.sq_bridge.specs.Sorts.{AreAllOfSorts, AreOfSorts, GivesSorts, HoldsSorts}
+use Rattle.sq_typed.specs.Sorts.{AreAllOfSorts, AreOfSorts, GivesSorts, HoldsSorts}
 use Rattle.sq_bridge.proofs.Combining.{chain_holds, intersect_holds}
 use Rattle.sq_bridge.proofs.Grouping.{item_rows_are, once_is, selected_are}
 use Rattle.sq_bridge.proofs.NodeEquations.{member_node-is, node-Block, node-Chain, node-Intersect, node-Query, node-Relation, source_node-is}
-use Rattle.sq_bridge.proofs.Sorting.{SourceGives, all_widths, kept_sorts, length_of_sorts, numbers_are, query_sorts, sorts_width, sources_sorts, sources_widths}
+use Rattle.sq_typed.proofs.Sorting.{SourceGivesSorts, width_of_sources, kept_sorts, length_of_sorts, numbers_are, query_sorts, sorts_width, sources_sorts, source_widths}
 use Rattle.sq_bridge.proofs.Staging.{joined_rows_kept}
 
 -- ---- lists by place
@@ -112,16 +113,16 @@ once_width false n = refl
 
 -- what a block needs of its sources
 pub record BlockFits (ss : List Source) (ks : List KindedSource) (where_ : Option Cond) (grouping : Option Grouping) : Type 0 where
-  pub gives : Pairwise SourceGives ss ks
+  pub gives : Pairwise SourceGivesSorts ss ks
   pub filtered : may_suit (joined_kinds ks) where_ ≡ true
   pub grouped : may_group (joined_kinds ks) grouping ≡ true
 
 module _ (ns : List NodeSource) (s : Source) (ss : List Source) (ks : List KindedSource) (where_ : Option Cond) (grouping : Option Grouping) (fits : BlockFits (s ∷ ss) ks where_ grouping) (worth : AreWorth ns (s ∷ ss)) (comma : s.join ≡ Comma) where
   pub narrow : AllByRecursion (λ c. width_of (cond_columns c) ≤ width_of_all (s ∷ ss)) (members_of where_)
-  narrow = subst (λ w. AllByRecursion (λ c. width_of (cond_columns c) ≤ w) (members_of where_)) (sym (all_widths (s ∷ ss) ks fits.gives)) (members_fit (joined_kinds ks) where_ fits.filtered)
+  narrow = subst (λ w. AllByRecursion (λ c. width_of (cond_columns c) ≤ w) (members_of where_)) (sym (width_of_sources (s ∷ ss) ks fits.gives)) (members_fit (joined_kinds ks) where_ fits.filtered)
 
   pub block_rows_are : (joined_node (members_of where_) ns).rows ≡ listed (kept (members_of where_) (s ∷ ss))
-  block_rows_are = joined_rows_kept (members_of where_) ns s ss worth comma (sources_widths (s ∷ ss) ks fits.gives) narrow
+  block_rows_are = joined_rows_kept (members_of where_) ns s ss worth comma (source_widths (s ∷ ss) ks fits.gives) narrow
 
   pub block_calls_suit : GroupsSuit (kept (members_of where_) (s ∷ ss)) grouping
   block_calls_suit = groups_suit (joined_kinds ks) (kept (members_of where_) (s ∷ ss)) (kept_sorts (members_of where_) (s ∷ ss) ks fits.gives) grouping fits.grouped

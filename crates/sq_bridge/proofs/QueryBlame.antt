@@ -1,6 +1,7 @@
 -- The node of a query has a fault exactly if its answer is out of range.
 use Rattle.std.proofs.Common.{◌≡◌, List, [], ◌∷◌, ◌++◌, map, Bool, true, false, ◌&&◌, ◌||◌, refl, sym, ap, ap₂, subst, ◌∙◌}
 use Rattle.std.specs.List.{AllByRecursion, list_all, list_any}
+use Rattle.sq_algebra.proofs.AnyLemmas.{any_mapped}
 use Rattle.sq_expr.specs.declared.cond.Cond.{Cond}
 use Rattle.sq_expr.specs.declared.expr.Expr.{Expr}
 use Rattle.sq_expr.specs.declared.expr.Kind.{Kind}
@@ -18,7 +19,8 @@ use Rattle.sq_typed.specs.Fit.{Fits, HoldsKinds, Kinded, KindedSource, Pairwise,
 use Rattle.sq_typed.specs.Queries.{Contents, after_each, answer, chain_answer, has_range_fault, intersect_answer, intersect_rows, is_crowded, member_answer, origin_answer, set_rows, source_of_item}
 use Rattle.sq_typed.proofs.Equations.{answer-Block, answer-Chain, answer-Intersect, member-is, origin-Query, origin-Relation, source-is}
 use Rattle.sq_typed.proofs.FitEquations.{kinded-Block, kinded-Chain, kinded-Intersect, kinded-Query, kinded_source-is}
-use Rattle.sq_typed.proofs.FitQueries.{in_range, or_left, or_right, origin_gives, pairwise_mapped}
+use Rattle.sq_typed.proofs.FitQueries.{in_range, or_left, or_right, origin_gives}
+use Rattle.sq_typed.proofs.GivenRows.{pairwise_mapped}
 use Rattle.sq_typed.proofs.Tests.{and_left, and_right, every}
 use Rattle.sq_typed.proofs.Trees.{QueryCases, each_query}
 use Rattle.sq_typed.specs.Within.{BlockOf}
@@ -26,12 +28,11 @@ use Rattle.sq_bridge.specs.Groups.{block_node}
 use Rattle.sq_bridge.specs.Meaning.{Begins, IsMemberOf, IsStepOf, IsWorthRelation, begins}
 use Rattle.sq_bridge.specs.Nodes.{Node}
 use Rattle.sq_bridge.specs.Queries.{chain_node, intersect_node, member_node, origin_node, query_node, source_node}
-use Rattle.sq_bridge.specs.Sorts.{HoldsSorts}
+use Rattle.sq_typed.specs.Sorts.{HoldsSorts}
 use Rattle.sq_bridge.proofs.Blaming.{FaultsAgree, SourceIsGood, any_same_of, block_fault, chain_answer_fault, chain_fault, common_fault}
 use Rattle.sq_bridge.proofs.Meaningful.{Known, OriginBegins, OriginMeans, QueryMeans, block_fits, comma_is, first_begins, first_holds, first_width, known_all, member_known, members_begin, origin_means, query_means, sources_begin, sources_mean, step_known, steps_begin}
 use Rattle.sq_bridge.proofs.NodeEquations.{member_node-is, node-Block, node-Chain, node-Intersect, node-Query, node-Relation, source_node-is}
-use Rattle.sq_bridge.proofs.Ranging.{any_mapped}
-use Rattle.sq_bridge.proofs.Sorting.{kinds_have_sorts}
+use Rattle.sq_typed.proofs.Sorting.{kinds_have_sorts}
 
 -- relations of kinds are of sorts
 pub holds_sorts : (cs : List Contents) (kss : List (List Kind)) → Pairwise HoldsKinds cs kss → Pairwise HoldsSorts cs kss

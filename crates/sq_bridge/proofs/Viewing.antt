@@ -25,11 +25,11 @@ use Rattle.sq_bridge.specs.Meaning.{Begins, IsWorth, IsWorthRelation}
 use Rattle.sq_bridge.specs.Nodes.{Node}
 use Rattle.sq_bridge.specs.Queries.{query_node}
 use Rattle.sq_bridge.specs.Rows.{listed}
-use Rattle.sq_bridge.specs.Sorts.{AreOfSorts, GivesSorts, HoldsSorts}
+use Rattle.sq_typed.specs.Sorts.{AreOfSorts, GivesSorts, HoldsSorts}
 use Rattle.sq_bridge.specs.Views.{NodeStanding, first_table, node_of_first, node_verdict, view_nodes, with_relation_node, with_table_node, with_view_node}
 use Rattle.sq_bridge.proofs.Meaningful.{query_means}
 use Rattle.sq_bridge.proofs.QueryBlame.{query_agrees}
-use Rattle.sq_bridge.proofs.Sorting.{kinds_have_sorts, query_sorts}
+use Rattle.sq_typed.proofs.Sorting.{kinds_have_sorts, query_sorts}
 
 -- ---- lists with one member more
 

@@ -5,5 +5,4 @@ pub mod Groups
 pub mod Queries
 pub mod Views
 pub mod Meaning
-pub mod Sorts
 pub mod Beginnings

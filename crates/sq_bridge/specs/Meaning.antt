@@ -26,7 +26,7 @@ use Rattle.sq_typed.specs.Within.{BlockOf}
 use Rattle.sq_bridge.specs.Nodes.{Node, NodeSource, joined_node, stage_rows}
 use Rattle.sq_bridge.specs.Queries.{query_node}
 use Rattle.sq_bridge.specs.Rows.{listed}
-use Rattle.sq_bridge.specs.Sorts.{HoldsSorts}
+use Rattle.sq_typed.specs.Sorts.{HoldsSorts}
 
 pub record IsWorth (n : Node) (a : Answer) : Type 0 where
   pub width : n.width ≡ a.width

@@ -8,7 +8,8 @@ pub mod join_laws;
 pub mod query_laws;
 pub mod range_laws;
 pub mod set_laws;
-pub mod sort_laws;
 pub mod stage_laws;
 pub mod suit_laws;
 pub mod view_laws;
+
+pub use sq_typed::sort_laws;

@@ -5,6 +5,7 @@ use Rattle.std.specs.List.{All, AllByRecursion}
 use Rattle.std.specs.Ordering.{is_eq}
 use Rattle.std.proofs.lemmas.Option.{cond_some}
 use Rattle.sq_value.specs.Order.{row_cmp}
+use Rattle.sq_value.specs.OrderLaws.{row_cmp-total}
 use Rattle.sq_value.specs.declared.value.Value.{Value}
 use Rattle.sq_value.specs.declared.value.Value.TheVariants.{Null}
 use Rattle.sq_expr.specs.Items.{IsStorable}
@@ -17,6 +18,7 @@ use Rattle.sq_expr.proofs.Equations.{num-Column}
 use Rattle.sq_expr.proofs.Rows.{kind_of_column, kinds_joined, kinds_of_nulls, number_is_bigint, text_is_text, value_of_sort}
 use Rattle.sq_algebra.specs.Operators.{image, pairs_where, where_same}
 use Rattle.sq_algebra.specs.ZSet.{entries}
+use Rattle.sq_algebra.proofs.EachLemmas.{each-image, each-product}
 use Rattle.sq_ops.specs.Extensions.{first_value_outside}
 use Rattle.sq_ops.specs.Joins.{chosen, key_in}
 use Rattle.sq_ops.specs.Rows.{holds, items_of, kept, numbers_of, padded}
@@ -25,7 +27,6 @@ use Rattle.sq_ops.proofs.Ranges.{items_stored, none_of_each}
 use Rattle.sq_circuit.specs.Invariant.{HasKinds}
 use Rattle.sq_circuit.specs.Nodes.{Rows, paired}
 use Rattle.sq_circuit.specs.Gives.{ColumnKinds, ItemKind, ItemKinds, OfColumn, OfNumber, OfText, PaddedKinds}
-use Rattle.sq_circuit.proofs.Lower.{rows_of_image, rows_of_product}
 
 abbrev OfKinds : List Kind → List Value → Type 0
 OfKinds kinds row = AreOfKinds row kinds
@@ -54,7 +55,7 @@ kept_kinds : (c : Cond) (kinds : List Kind) (row : List Value) → AreOfKinds ro
 kept_kinds c kinds row h = elim (holds c row) as (λ b. AllByRecursion (OfKinds kinds) (cond b (row ∷ []) [])) [ true ↦ (h, tt) | false ↦ tt ]
 
 pub keep_follows : (c : Cond) (kinds : List Kind) (y : Rows) → HasKinds kinds y → HasKinds kinds (image row_cmp (kept c) y)
-keep_follows c kinds y h = rows_of_image (OfKinds kinds) (OfKinds kinds) (kept c) y (λ i d low. kept_kinds c kinds (get_or (entries y) i d).0) h
+keep_follows c kinds y h = each-image (OfKinds kinds) (OfKinds kinds) row_cmp row_cmp-total (kept c) y (λ i d low. kept_kinds c kinds (get_or (entries y) i d).0) h
 
 padded_kinds : (kinds own : List Kind) (n : ℕ) → PaddedKinds kinds n own → (row : List Value) → AreOfKinds row kinds → AreOfKinds (padded n row) own
 padded_kinds kinds own n g row h =
@@ -62,7 +63,7 @@ padded_kinds kinds own n g row h =
     (kinds_joined row (replicate n Null) kinds g.more h (subst (λ m. AreOfKinds (replicate m Null) g.more) g.many (kinds_of_nulls g.more)))
 
 pub pad_follows : (n : ℕ) (kinds own : List Kind) (y : Rows) → PaddedKinds kinds n own → HasKinds kinds y → HasKinds own (image row_cmp (λ row. padded n row ∷ []) y)
-pad_follows n kinds own y g h = rows_of_image (OfKinds kinds) (OfKinds own) (λ row. padded n row ∷ []) y (λ i d low r. (padded_kinds kinds own n g (get_or (entries y) i d).0 r, tt)) h
+pad_follows n kinds own y g h = each-image (OfKinds kinds) (OfKinds own) row_cmp row_cmp-total (λ row. padded n row ∷ []) y (λ i d low r. (padded_kinds kinds own n g (get_or (entries y) i d).0 r, tt)) h
 
 -- ---- items of all rows
 pub none_is : {A : Type 0} (o : Option A) → is_some o ≡ false → o ≡ None
@@ -75,7 +76,7 @@ item_rows es y inside i d low =
 
 pub project_follows : (es : List Expr) (kinds own : List Kind) (y : Rows) → ItemKinds kinds es own → is_some (first_value_outside (numbers_of es) y) ≡ false → HasKinds kinds y → HasKinds own (image row_cmp (λ row. items_of es row ∷ []) y)
 project_follows es kinds own y g inside h =
-    rows_of_image (OfKinds kinds) (OfKinds own) (λ row. items_of es row ∷ []) y
+    each-image (OfKinds kinds) (OfKinds own) row_cmp row_cmp-total (λ row. items_of es row ∷ []) y
     (λ i d low r. (items_kinds kinds (get_or (entries y) i d).0 r es own (item_rows es y inside i d low) g, tt)) h
 
 -- ---- joins
@@ -95,4 +96,4 @@ module _ (op : Pairing) (left right own : List Kind) (g : ColumnKinds (left ++ r
 
   pub join_follows : (y z : Rows) → HasKinds left y → HasKinds right z → HasKinds own (paired op y z)
   join_follows y z h k =
-      rows_of_product (OfKinds left) (OfKinds right) (OfKinds own) (pairs_where row_cmp (key_in op.left op.nulls_match) (key_in op.right op.nulls_match) (chosen op.keep op.items)) pair_kinds y z h k
+      each-product (OfKinds left) (OfKinds right) (OfKinds own) row_cmp row_cmp-total (pairs_where row_cmp (key_in op.left op.nulls_match) (key_in op.right op.nulls_match) (chosen op.keep op.items)) pair_kinds y z h k

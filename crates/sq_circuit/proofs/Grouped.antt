@@ -1,10 +1,9 @@
 -- The rows of an aggregate are of the kinds that it gives.
-use Rattle.std.proofs.Common.{◌≡◌, ℕ, ◌^◌, Bool, true, false, not, ◌||◌, cond, List, [], ◌∷◌, ◌++◌, map, ℤ, pos, ◌≤ℤ◌, Some, None, refl, sym, subst, arith}
+use Rattle.std.proofs.Common.{◌≡◌, ℕ, ◌^◌, Bool, true, false, ◌||◌, cond, List, [], ◌∷◌, map, ℤ, pos, ◌≤ℤ◌, Some, None, refl, sym, subst, arith}
 use Rattle.std.specs.Prelude.{FitsSigned, fold, is_some, slice_get}
 use Rattle.std.specs.Int.{w64}
-use Rattle.std.specs.List.{AllByRecursion, find, flat_map}
-use Rattle.std.specs.Ordering.{int_eq, is_eq, is_lt, match_ordering}
-use Rattle.std.specs.declared.cmp.Ordering.TheVariants.{Less, Equal, Greater}
+use Rattle.std.specs.List.{AllByRecursion}
+use Rattle.std.specs.Ordering.{int_eq, is_eq, is_lt}
 use Rattle.std.proofs.lemmas.Int.{fits_signed_from_abs}
 use Rattle.std.proofs.lemmas.List.Elements.{recursion_from_All}
 use borrow.Author.Differences.{ints}
@@ -14,27 +13,28 @@ use Rattle.sq_value.specs.declared.value.Value.{Value}
 use Rattle.sq_value.specs.declared.value.Value.TheVariants.{Null, Int}
 use Rattle.sq_expr.specs.Kinds.{AreOfKinds, IsOfKind}
 use Rattle.sq_expr.specs.Meaning.{column_of, is_null}
-use Rattle.sq_expr.specs.Bigint.{first_not_bigint, is_bigint}
+use Rattle.sq_expr.specs.Bigint.{first_not_bigint}
 use Rattle.sq_expr.specs.declared.expr.Func.{Func}
 use Rattle.sq_expr.specs.declared.expr.Func.TheVariants.{CountAll, Count, Sum, Min, Max}
 use Rattle.sq_expr.specs.declared.expr.Kind.{Kind}
 use Rattle.sq_expr.specs.declared.expr.Kind.TheVariants as kind
+use Rattle.sq_expr.proofs.Lists.{all_weaker}
 use Rattle.sq_expr.proofs.Rows.{kind_of_column, kinds_joined}
 use Rattle.sq_algebra.specs.Keyed.{at_key, keys_of}
-use Rattle.sq_algebra.specs.Listed.{in_order, place}
 use Rattle.sq_algebra.specs.Operators.{keep}
 use Rattle.sq_algebra.specs.ZSet.{entries, total}
+use Rattle.sq_algebra.proofs.EachLemmas.{each-at_key, each-in_order, each-of_list}
 use Rattle.sq_algebra.proofs.NonNegativeLemmas.{nonnegative-keep, total-keep-le}
 use Rattle.sq_zset.proofs.Masses.{mass-total}
 use Rattle.sq_ops.specs.Aggregates.{aggregated, call_value, count_in, first_sum_outside, greater, group_columns, group_of, group_row, groups_of, has_value, lesser, rows_of_group, shown_rows, sum_in, sums_of, tested_sum, values_in}
 use Rattle.sq_ops.specs.declared.aggregate.AggSpec.{AggSpec}
 use Rattle.sq_ops.specs.declared.aggregate.Call.{Call}
+use Rattle.sq_ops.proofs.Outside.{sums_of_each_key}
 use Rattle.sq_ops.proofs.Ranges.{none_of_each, none_outside}
 use Rattle.sq_circuit.specs.Invariant.{HasKinds, IsListed}
 use Rattle.sq_circuit.specs.Nodes.{Rows}
 use Rattle.sq_circuit.specs.Gives.{CallKind, CallKinds, ColumnKinds, GroupKinds}
 use Rattle.sq_circuit.proofs.Following.{columns_kinds, none_is}
-use Rattle.sq_circuit.proofs.Lower.{rows_of_kept, rows_of_list}
 
 -- ---- numbers of rows
 few_fit : (n : ℤ) → pos 0 ≤ℤ n → n ≤ℤ pos (2 ^ 61) → FitsSigned w64 n
@@ -57,8 +57,7 @@ unfolding at_key
 part_listed key c z h = kept_listed (λ row. is_eq (row_cmp c (key row))) z h
 
 part_kinds : (kinds : List Kind) (key : List Value → List Value) (c : List Value) (z : Rows) → HasKinds kinds z → HasKinds kinds (at_key row_cmp key c z)
-unfolding at_key
-part_kinds kinds key c z h = rows_of_kept (λ row. AreOfKinds row kinds) (λ row. is_eq (row_cmp c (key row))) z h
+part_kinds kinds key c z h = each-at_key (λ row. AreOfKinds row kinds) row_cmp row_cmp-total row_cmp key c z h
 
 -- ---- the least and the greatest value
 either : (b : Bool) (x y : Value) (k : Kind) → IsOfKind x k → IsOfKind y k → IsOfKind (cond b x y) k
@@ -96,58 +95,18 @@ calls_kinds kinds z h l [] (k ∷ ks) g inside = absurd g
 calls_kinds kinds z h l (call ∷ calls) [] g inside = absurd g
 calls_kinds kinds z h l (call ∷ calls) (k ∷ ks) g inside = (call_kind kinds z h l call.func call.arg k g.0 inside.0, calls_kinds kinds z h l calls ks g.1 inside.1)
 
--- ---- sums that are all inside
-abbrev is_outside : List Value × ℤ → Bool
-is_outside s = not (is_bigint s.1)
-
-none_in_both : {A : Type 0} (p : A → Bool) (xs ys : List A) → find p (xs ++ ys) ≡ None → (find p xs ≡ None) × (find p ys ≡ None)
-none_in_both p [] ys e = (refl, e)
-none_in_both p (x ∷ xs) ys e =
-    elim (p x) as (λ b. cond b (Some x) (find p (xs ++ ys)) ≡ None → (cond b (Some x) (find p xs) ≡ None) × (find p ys ≡ None)) [
-      | true ↦ λ here. absurd (cc here)
-      | false ↦ λ later. none_in_both p xs ys later
-    ] e
-
-none_keyed : (c : List Value) (ns : List ℤ) → find is_outside (map (λ n. (c, n)) ns) ≡ None → first_not_bigint ns ≡ None
-none_keyed c [] e = refl
-none_keyed c (n ∷ ns) e =
-    elim (is_bigint n) as (λ b. cond (not b) (Some (c, n)) (find is_outside (map (λ m. (c, m)) ns)) ≡ None → cond (not b) (Some n) (first_not_bigint ns) ≡ None) [
-      | true ↦ λ later. none_keyed c ns later
-      | false ↦ λ here. absurd (cc here)
-    ] e
-
-none_in_groups : (sums : List Value → List ℤ) (cs : List (List Value)) → find is_outside (flat_map (λ c. map (λ n. (c, n)) (sums c)) cs) ≡ None → AllByRecursion (λ c. first_not_bigint (sums c) ≡ None) cs
-none_in_groups sums [] e = tt
-none_in_groups sums (c ∷ cs) e =
-    let both = none_in_both is_outside (map (λ n. (c, n)) (sums c)) (flat_map (λ d. map (λ n. (d, n)) (sums d)) cs) e in
-    (none_keyed c (sums c) both.0, none_in_groups sums cs both.1)
-
 -- ---- keys
-placed : (P : List Value → Type 0) (x : List Value) (xs : List (List Value)) → P x → AllByRecursion P xs → AllByRecursion P (place row_cmp x xs)
-placed P x [] h l = (h, tt)
-placed P x (y ∷ ys) h l =
-    let later : AllByRecursion P (place row_cmp x ys) = placed P x ys h l.1 in
-    elim (row_cmp x y) as (λ r. AllByRecursion P (match_ordering r (x ∷ y ∷ ys) (y ∷ ys) (y ∷ place row_cmp x ys))) [ Less ↦ (h, l) | Equal ↦ l | Greater ↦ (l.0, later) ]
-
-in_order_all : (P : List Value → Type 0) (xs : List (List Value)) → AllByRecursion P xs → AllByRecursion P (in_order row_cmp xs)
-in_order_all P [] h = tt
-in_order_all P (x ∷ xs) h = placed P x (in_order row_cmp xs) h.0 (in_order_all P xs h.1)
-
 all_mapped : {X Y : Type 0} (P : Y → Type 0) (f : X → Y) (xs : List X) → AllByRecursion (λ x. P (f x)) xs → AllByRecursion P (map f xs)
 all_mapped P f [] h = tt
 all_mapped P f (x ∷ xs) h = (h.0, all_mapped P f xs h.1)
-
-weaker : {X : Type 0} (P Q : X → Type 0) → ((x : X) → P x → Q x) → (xs : List X) → AllByRecursion P xs → AllByRecursion Q xs
-weaker P Q f [] h = tt
-weaker P Q f (x ∷ xs) h = (f x h.0, weaker P Q f xs h.1)
 
 module _ (kinds : List Kind) (spec : AggSpec) (own : List Kind) (g : GroupKinds kinds spec own) (z : Rows) (h : HasKinds kinds z) (l : IsListed z) where
   keys_kinds : AllByRecursion (λ c. AreOfKinds c g.keys) (keys_of row_cmp (group_of spec) z)
   unfolding keys_of
   keys_kinds =
-      in_order_all (λ c. AreOfKinds c g.keys) (map (λ e. group_of spec e.0) (entries z))
+      each-in_order (λ c. AreOfKinds c g.keys) row_cmp (map (λ e. group_of spec e.0) (entries z))
       (all_mapped (λ c. AreOfKinds c g.keys) (λ (e : List Value × ℤ). group_of spec e.0) (entries z)
-      (weaker (λ (e : List Value × ℤ). AreOfKinds e.0 kinds) (λ e. AreOfKinds (group_of spec e.0) g.keys) (λ e r. columns_kinds kinds e.0 r (group_columns spec) g.keys g.of_keys) (entries z)
+      (all_weaker (λ (e : List Value × ℤ). AreOfKinds e.0 kinds) (λ e. AreOfKinds (group_of spec e.0) g.keys) (entries z) (λ e r. columns_kinds kinds e.0 r (group_columns spec) g.keys g.of_keys)
       (recursion_from_All (λ (e : List Value × ℤ). AreOfKinds e.0 kinds) (entries z) h)))
 
   no_columns : (ks : List Kind) → ColumnKinds kinds [] ks → AreOfKinds [] ks
@@ -176,5 +135,5 @@ module _ (kinds : List Kind) (spec : AggSpec) (own : List Kind) (g : GroupKinds 
 
   pub aggregate_follows : is_some (first_sum_outside spec z) ≡ false → HasKinds own (aggregated spec z)
   aggregate_follows inside =
-      rows_of_list (λ row. AreOfKinds row own) (shown_rows spec z)
-      (all_rows (groups_of spec z) groups_kinds (none_in_groups (λ c. sums_of spec.calls (rows_of_group spec z c)) (groups_of spec z) (none_is (first_sum_outside spec z) inside)))
+      each-of_list (λ row. AreOfKinds row own) row_cmp row_cmp-total (shown_rows spec z)
+      (all_rows (groups_of spec z) groups_kinds (recursion_from_All (λ c. first_not_bigint (sums_of spec.calls (rows_of_group spec z c)) ≡ None) (groups_of spec z) ((sums_of_each_key spec z).0 (none_is (first_sum_outside spec z) inside))))

@@ -1,12 +1,10 @@
 -- Every kind of node adds up over shards, and changes by its keys.
-use Rattle.std.proofs.Common.{◌≡◌, ℕ, ◌==◌, false, not, ◌||◌, cond, List, [], Some, refl, sym, ap, ap₂, ◌∙◌}
-use Rattle.std.specs.List.{list_any}
+use Rattle.std.proofs.Common.{◌≡◌, ◌==◌, false, cond, List, [], refl, sym, ap, ap₂, ◌∙◌}
 use Rattle.std.specs.Ordering.{is_eq}
-use Rattle.std.proofs.lemmas.Option.{cond_some}
 use Rattle.sq_value.specs.declared.value.Value.{Value}
 use Rattle.sq_value.specs.Order.{row_cmp}
 use Rattle.sq_value.specs.OrderLaws.{row_cmp-total, row_cmp-antisymmetric}
-use Rattle.sq_expr.specs.Meaning.{column_of, is_null, columns_of}
+use Rattle.sq_expr.specs.Meaning.{columns_of}
 use Rattle.sq_algebra.specs.Groups.{IsAdditive, sum_over, z_sets}
 use Rattle.sq_algebra.specs.Keyed.{CoversOnce, Shards, at_key, by_key, cut, over_shards}
 use Rattle.sq_algebra.specs.Operators.{distinct, image, pairs_where}
@@ -23,6 +21,7 @@ use Rattle.sq_ops.specs.WholeLaws.{aggregates_add_up}
 use Rattle.sq_ops.specs.Wholes.{beyond_none}
 use Rattle.sq_ops.specs.declared.aggregate.AggSpec.{AggSpec}
 use Rattle.sq_ops.specs.declared.bilinear.Pairing.{Pairing}
+use Rattle.sq_ops.proofs.RowColumns.{key_tells}
 use Rattle.sq_circuit.specs.LinearOps.{images_of}
 use Rattle.sq_circuit.specs.NodeLaws.{AddsOverShards, ChangesByKeys, IsLawful, rise_at, share}
 use Rattle.sq_circuit.specs.Nodes.{Rows, core, left_key, none, operator, paired, right_key, shown_for_none, standing}
@@ -94,16 +93,13 @@ module _ (f : Rows → Rows) (key : List Value → List Value) (part : List Valu
 
 -- ---- a join
 module _ (op : Pairing) where
-  key_tells : (cs : List ℕ) (row c : List Value) → key_in cs op.nulls_match row ≡ Some c → columns_of cs row ≡ c
-  key_tells cs row c e = (cond_some (op.nulls_match || not (list_any (λ i. is_null (column_of row i)) cs)) (columns_of cs row) c e).1
-
   abbrev images : List Value → List Value → List (List Value)
   images = pairs_where row_cmp (key_in op.left op.nulls_match) (key_in op.right op.nulls_match) (chosen op.keep op.items)
 
   join_adds : AddsOverShards (paired op) (columns_of op.left) (columns_of op.right)
   join_adds S y z =
       product_some_cuts row_cmp row_cmp-total row_cmp-antisymmetric S row_cmp row_cmp-total row_cmp-antisymmetric row_cmp row_cmp-total row_cmp-antisymmetric row_cmp row_cmp-total row_cmp-antisymmetric
-      (key_in op.left op.nulls_match) (key_in op.right op.nulls_match) (chosen op.keep op.items) (columns_of op.left) (columns_of op.right) (key_tells op.left) (key_tells op.right) y z
+      (key_in op.left op.nulls_match) (key_in op.right op.nulls_match) (chosen op.keep op.items) (columns_of op.left) (columns_of op.right) (λ row c. key_tells op.left op.nulls_match row c) (λ row c. key_tells op.right op.nulls_match row c) y z
 
   change : (y dy z dz : Rows) → minus (paired op (plus y dy) (plus z dz)) (paired op y z) ≡ plus (plus (paired op y dz) (paired op dy z)) (paired op dy dz)
   change y dy z dz =
@@ -114,7 +110,7 @@ module _ (op : Pairing) where
 
   apart_pairs : (row other : List Value) → is_eq (row_cmp (columns_of op.left row) (columns_of op.right other)) ≡ false → images row other ≡ []
   apart_pairs = pairs_where_apart row_cmp row_cmp-total row_cmp-antisymmetric row_cmp row_cmp-total row_cmp-antisymmetric row_cmp row_cmp-total row_cmp-antisymmetric row_cmp row_cmp-total row_cmp-antisymmetric
-      (key_in op.left op.nulls_match) (key_in op.right op.nulls_match) (chosen op.keep op.items) (columns_of op.left) (columns_of op.right) (key_tells op.left) (key_tells op.right)
+      (key_in op.left op.nulls_match) (key_in op.right op.nulls_match) (chosen op.keep op.items) (columns_of op.left) (columns_of op.right) (λ row c. key_tells op.left op.nulls_match row c) (λ row c. key_tells op.right op.nulls_match row c)
 
   abbrev on_left : List Value → Rows → Rows
   on_left c y = at_key row_cmp (columns_of op.left) c y

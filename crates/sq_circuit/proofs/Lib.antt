@@ -6,7 +6,6 @@ pub mod Smallest
 pub mod Lawful
 pub mod Growing
 pub mod Lawfully
-pub mod Lower
 pub mod Following
 pub mod Grouped
 pub mod Fewer

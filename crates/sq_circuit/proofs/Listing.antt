@@ -12,6 +12,7 @@ use Rattle.sq_expr.specs.Kinds.{AreOfKinds}
 use Rattle.sq_expr.specs.declared.expr.Kind.{Kind}
 use Rattle.sq_algebra.specs.Operators.{IsNonNegative, distinct, image, pairs_where}
 use Rattle.sq_algebra.specs.ZSet.{entries, minus, plus, total, weight}
+use Rattle.sq_algebra.proofs.EachLemmas.{each-distinct, each-minus, each-plus}
 use Rattle.sq_algebra.proofs.NonNegativeLemmas.{nonnegative-distinct, nonnegative-plus, nonnegative-product, weight-le-total}
 use Rattle.sq_zset.specs.Collecting.{mass_of}
 use Rattle.sq_zset.proofs.Masses.{mass-minus, mass-plus}
@@ -35,7 +36,6 @@ use Rattle.sq_circuit.proofs.Evaluating.{fault_at, sound_at, whole_at}
 use Rattle.sq_circuit.proofs.Fewer.{aggregated_listed, distinct_listed, image_listed, kept_few}
 use Rattle.sq_circuit.proofs.Following.{join_follows, keep_follows, pad_follows, project_follows}
 use Rattle.sq_circuit.proofs.Grouped.{aggregate_follows}
-use Rattle.sq_circuit.proofs.Lower.{rows_of_difference, rows_of_distinct, rows_of_sum}
 use Rattle.sq_circuit.proofs.Owning.{reads_earlier}
 
 -- ---- weights of lists
@@ -178,7 +178,7 @@ module _ (c : List Part) (parts : (i : ℕ) (p : Part) → slice_get c i ≡ Som
           let left = list_of a k.left k.left_sound k.asks.0 in
           let right = list_of b k.right k.right_sound k.asks.1 in
           record {
-            kinds = rows_of_sum (λ row. AreOfKinds row p.kinds) (whole c tables a) (whole c tables b)
+            kinds = each-plus (λ row. AreOfKinds row p.kinds) row_cmp row_cmp-total (whole c tables a) (whole c tables b)
                 (own_kinds (kinds_at c a) (whole c tables a) k.gives.0 (kinds_of a k.left k.left_sound)) (own_kinds (kinds_at c b) (whole c tables b) k.gives.1 (kinds_of b k.right k.right_sound));
             few = let l = listed_few (whole c tables a) left in let r = listed_few (whole c tables b) right in let both = mass-plus (whole c tables a) (whole c tables b) in omega arith;
             listed = λ e. tested p (plus (whole c tables a) (whole c tables b)) (firm e) k.fine (nonnegative-plus row_cmp row_cmp-total (whole c tables a) (whole c tables b) left.above right.above);
@@ -189,7 +189,7 @@ module _ (c : List Part) (parts : (i : ℕ) (p : Part) → slice_get c i ≡ Som
           let left = list_of a k.left k.left_sound k.asks.0 in
           let right = list_of b k.right k.right_sound k.asks.1 in
           record {
-            kinds = rows_of_difference (λ row. AreOfKinds row p.kinds) (whole c tables a) (whole c tables b)
+            kinds = each-minus (λ row. AreOfKinds row p.kinds) row_cmp row_cmp-total (whole c tables a) (whole c tables b)
                 (own_kinds (kinds_at c a) (whole c tables a) k.gives.0 (kinds_of a k.left k.left_sound)) (own_kinds (kinds_at c b) (whole c tables b) k.gives.1 (kinds_of b k.right k.right_sound));
             few = let l = listed_few (whole c tables a) left in let r = listed_few (whole c tables b) right in let both = mass-minus (whole c tables a) (whole c tables b) in omega arith;
             listed = λ e. tested p (minus (whole c tables a) (whole c tables b)) (firm e) k.fine (k.short (firm e));
@@ -216,7 +216,7 @@ module _ (c : List Part) (parts : (i : ℕ) (p : Part) → slice_get c i ≡ Som
       a_distinct : (j : ℕ) → Known (Distinct j) → Holds p (Distinct j) (distinct (whole c tables j))
       a_distinct j k =
           a_list p (Distinct j) (distinct (whole c tables j))
-          (own_kinds (kinds_at c j) (distinct (whole c tables j)) k.gives (rows_of_distinct (λ row. AreOfKinds row (kinds_at c j)) (whole c tables j) (kinds_of j k.left k.left_sound)))
+          (own_kinds (kinds_at c j) (distinct (whole c tables j)) k.gives (each-distinct (λ row. AreOfKinds row (kinds_at c j)) row_cmp row_cmp-total (whole c tables j) (kinds_of j k.left k.left_sound)))
           (either_way p (distinct (whole c tables j)) k.fine (nonnegative-distinct row_cmp row_cmp-total (whole c tables j))
           (λ e. (distinct_listed (whole c tables j) (list_of j k.left k.left_sound (k.asks e))).few))
 

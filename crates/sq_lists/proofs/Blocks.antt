@@ -11,13 +11,15 @@ use Rattle.sq_expr.specs.declared.expr.Kind.{Kind}
 use Rattle.sq_expr.proofs.FitsLemmas.{fits_of}
 use Rattle.sq_expr.proofs.Kept.{members_suit}
 use Rattle.sq_expr.proofs.Lists.{all_weaker}
+use Rattle.sq_expr.proofs.Rows.{length_of_kinds}
 use Rattle.sq_typed.specs.declared.query.Grouping.{Grouping}
 use Rattle.sq_typed.specs.Blocks.{block_answer, group_row, groups, item_rows, selected, tested_calls, without_repeats}
 use Rattle.sq_typed.specs.Fit.{AreAllOfKinds, GivesKinds, Pairwise, SourceGivesKinds, grouped_kinds, item_row_kinds}
 use Rattle.sq_typed.specs.From.{Row, Answer, Source, all_hold, kept, members_of, stages, widths_of}
 use Rattle.sq_typed.specs.Laws.{HasItsWidth, last_of, width_of_all}
 use Rattle.sq_typed.specs.Queries.{is_outside}
-use Rattle.sq_typed.proofs.FitQueries.{IsFew, its_width, last_few, none_pass, or_left, or_right}
+use Rattle.sq_typed.proofs.FitQueries.{IsFew, last_few, none_pass, or_left, or_right}
+use Rattle.sq_typed.proofs.GivenRows.{its_width}
 use Rattle.sq_typed.proofs.Tests.{every, filter_all}
 use Rattle.sq_typed.proofs.FitRows.{rows_of_groups_are, rows_of_where}
 use Rattle.sq_typed.proofs.WhereLemmas.{where_keeps_the_last}
@@ -54,7 +56,7 @@ groups_fit g rows j inside =
 -- ---- the whole block
 
 kinds_width : (a : Answer) (kinds : List Kind) → GivesKinds a kinds → HasItsWidth a
-kinds_width a kinds h = its_width a kinds h
+kinds_width a kinds h = its_width AreOfKinds length_of_kinds a kinds h
 
 all_widths : (ss : List Source) (kss : List (List Kind)) → Pairwise SourceGivesKinds ss kss → AllByRecursion (λ s. HasItsWidth s.answer) ss
 all_widths [] [] p = tt

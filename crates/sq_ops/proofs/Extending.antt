@@ -1,15 +1,18 @@
 -- Operators on rows, on lists of rows and on Z-sets of rows.
-use Rattle.std.proofs.Common.{◌≡◌, List, [], ◌∷◌, ◌++◌, map, Bool, true, false, cond, filter, refl, sym, ap, ◌∙◌}
+use Rattle.std.proofs.Common.{◌≡◌, ℕ, List, [], ◌∷◌, ◌++◌, map, Bool, true, false, cond, filter, replicate, refl, sym, ap, ◌∙◌}
 use Rattle.std.specs.List.{flat_map}
+use Rattle.std.proofs.lemmas.List.{append_cancel_right}
 use Rattle.sq_value.specs.declared.value.Value.{Value}
+use Rattle.sq_value.specs.declared.value.Value.TheVariants.{Null}
 use Rattle.sq_value.specs.Order.{row_cmp}
 use Rattle.sq_value.specs.OrderLaws.{row_cmp-total, row_cmp-antisymmetric}
 use Rattle.sq_algebra.specs.Groups.{z_sets}
 use Rattle.sq_algebra.specs.Operators.{image, keep}
-use Rattle.sq_algebra.specs.ZSet.{ZSet, of_list, single, zero}
+use Rattle.sq_algebra.specs.ZSet.{ZSet, of_list, single, weight, zero}
 use Rattle.sq_algebra.proofs.LinearLemmas.{lin_agree}
-use Rattle.sq_algebra.proofs.OperatorLemmas.{image-of_list, image-of_list-map, image-zero, image_is, keep_is, of_list-nil, of_list-one}
+use Rattle.sq_algebra.proofs.OperatorLemmas.{image-of_list, image-of_list-map, image-zero, image_is, keep_is, of_list-nil, of_list-one, weight-injective}
 use Rattle.sq_zset.specs.GroupLaws.{rows_are_abelian}
+use Rattle.sq_ops.specs.Rows.{padded}
 
 module _ (images : List Value → List (List Value)) where
   pub image_of_none : image row_cmp images (zero row_cmp) ≡ zero row_cmp
@@ -44,3 +47,8 @@ module _ (p : List Value → Bool) where
       image_is row_cmp row_cmp-total row_cmp-antisymmetric row_cmp row_cmp-total row_cmp-antisymmetric (λ row. cond (p row) (row ∷ []) []) z
       ∙ lin_agree row_cmp row_cmp-total row_cmp-antisymmetric (z_sets row_cmp) rows_are_abelian (λ row. of_list row_cmp (cond (p row) (row ∷ []) [])) (λ row. cond (p row) (single row_cmp row) (zero row_cmp)) one_passing z
       ∙ sym (keep_is row_cmp row_cmp-total row_cmp-antisymmetric p z)
+
+-- each padded row is the image of one row
+pub weight-padded : (n : ℕ) (row : List Value) (z : ZSet (List Value) row_cmp) → weight (padded n row) (image row_cmp (λ r. padded n r ∷ []) z) ≡ weight row z
+weight-padded n row z =
+    weight-injective row_cmp row_cmp-total row_cmp-antisymmetric row_cmp row_cmp-total row_cmp-antisymmetric (padded n) (λ r s e. append_cancel_right r s (replicate n Null) e) row z

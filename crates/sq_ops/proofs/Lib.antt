@@ -14,3 +14,5 @@ pub mod Extremes
 pub mod Arguments
 pub mod ListTies
 pub mod Parting
+pub mod Outside
+pub mod RowColumns

@@ -143,7 +143,7 @@ groups_in_any_order spec cs rows e each =
     (λ c. part_of_list spec.calls c (members_at row_cmp (group_of spec) c rows) ∙ ap (part_of false spec.calls c) (sym (at_key-of_list row_cmp row_cmp-total row_cmp-antisymmetric row_cmp row_cmp-total row_cmp-antisymmetric (group_of spec) c rows))) cs)
 
 -- ---- joins as pairs that pass a test
-one_pair : (k l : Option (List Value)) (t : Bool) (row : List Value) → where_same row_cmp k l (cond t (Some row) None) ≡ cond (is_same_key k l && t) (row ∷ []) []
+pub one_pair : (k l : Option (List Value)) (t : Bool) (row : List Value) → where_same row_cmp k l (cond t (Some row) None) ≡ cond (is_same_key k l && t) (row ∷ []) []
 one_pair None l t row = refl
 one_pair (Some c) None t row = refl
 one_pair (Some c) (Some d) true row = elim (is_eq (row_cmp c d)) as (λ b. cond b (row ∷ []) [] ≡ cond (b && true) (row ∷ []) []) [ true ↦ refl | false ↦ refl ]

@@ -5,12 +5,13 @@
 --     rows_of_groups spec rows      the rows of all groups, in the order of their first appearance
 --     rows_by_keys spec cs rows     the rows of the groups with the keys cs, in the order of cs
 --     NamesEachOnce spec cs rows    the key of each row stands once in the list cs
+--     sums_of_list calls rows       each SUM over the rows of a group.     sums_of_groups spec rows     those of all groups
 --     all_pairs rows others         each row with each other one, in the order of nested loops
 --     is_joined op pair, row_of_pair op pair     whether a join gives a row for a pair, and which
 --     joined_pairs op rows others   the Z-set of the rows that a join gives for all pairs
 --     joined_lists left right pair rows others     the join of the Z-sets of two lists
 --     joined_in_loops left right pair rows others     what nested loops over two lists give for rows with the same key
-use Rattle.std.specs.Prelude.{◌≡◌, ℕ, Bool, false, not, ◌&&◌, if◌then◌else◌, List, [], ◌∷◌, ◌++◌, map, length, pos, Option, Some, None}
+use Rattle.std.specs.Prelude.{◌≡◌, ℕ, Bool, false, not, ◌&&◌, if◌then◌else◌, List, [], ◌∷◌, ◌++◌, map, length, ℤ, pos, Option, Some, None}
 use Rattle.std.specs.List.{All, filter, flat_map}
 use Rattle.std.specs.Ordering.{is_eq}
 use Rattle.sq_value.specs.declared.value.Value.{Value}
@@ -18,7 +19,7 @@ use Rattle.sq_value.specs.declared.value.Value.TheVariants.{Null, Int}
 use Rattle.sq_value.specs.Order.{row_cmp}
 use Rattle.sq_algebra.specs.Groups.{integers, sum_over}
 use Rattle.sq_algebra.specs.Keyed.{groups_by, members_at}
-use Rattle.sq_algebra.specs.Listed.{count}
+use Rattle.sq_algebra.specs.Listed.{count, first_of_each}
 use Rattle.sq_algebra.specs.Operators.{pairs_where}
 use Rattle.sq_algebra.specs.ZSet.{ZSet, of_list}
 use Rattle.sq_zset.specs.Loops.{nested_loops}
@@ -60,6 +61,23 @@ NamesEachOnce spec cs rows = All (λ row. count row_cmp (group_of spec row) cs �
 
 abbrev pub rows_by_keys : AggSpec → List (List Value) → List (List Value) → List (List Value)
 rows_by_keys spec cs rows = flat_map (λ c. group_of_list spec.calls c (members_at row_cmp (group_of spec) c rows)) cs
+
+-- the keys of the groups, in the order of their first appearance: in a global aggregate the one without values
+abbrev pub keys_of_list : AggSpec → List Row → List Row
+keys_of_list spec rows = if spec.global then [] ∷ [] else first_of_each row_cmp (map (group_of spec) rows)
+
+abbrev pub list_sum : Func → ℕ → List Row → List ℤ
+list_sum CountAll column rows = []
+list_sum Count column rows = []
+list_sum Sum column rows = sum_over integers (number_at column) rows ∷ []
+list_sum Min column rows = []
+list_sum Max column rows = []
+
+abbrev pub sums_of_list : List Call → List Row → List ℤ
+sums_of_list calls rows = flat_map (λ call. list_sum call.func call.arg rows) calls
+
+abbrev pub sums_of_groups : AggSpec → List Row → List ℤ
+sums_of_groups spec rows = flat_map (λ c. sums_of_list spec.calls (members_at row_cmp (group_of spec) c rows)) (keys_of_list spec rows)
 
 -- ---- joins
 

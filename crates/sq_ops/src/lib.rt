@@ -17,6 +17,8 @@ pub mod laws;
 mod linear;
 pub mod list_laws;
 mod measure;
+pub mod range_laws;
+pub mod row_laws;
 mod whole;
 pub mod whole_laws;
 

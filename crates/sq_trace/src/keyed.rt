@@ -39,8 +39,6 @@ impl<P: Group> Keyed<P> {
         requires in_range { AllInRange P.first_outside entries.items }
         ensures { IfOk result (λ run. IsRunOf P.addition P.first_outside entries.items run) }
     {
-        // That zero lies in the range is known from this call alone.
-        let _zero = P::zero(alloc);
         if is_run(&entries) {
             return Ok(Keyed { entries });
         }

@@ -72,8 +72,6 @@ impl<P: Group> Trace<P> {
     pub fn new(alloc: Global) -> Trace<P>
         ensures { result ≡ [] }
     {
-        // That zero lies in the range is known from this call alone.
-        let _zero = P::zero(alloc);
         Trace {
             runs: Vec::new(alloc),
         }

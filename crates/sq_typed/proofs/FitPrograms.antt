@@ -26,7 +26,8 @@ use Rattle.sq_typed.specs.Tables.{Tables}
 use Rattle.sq_typed.specs.Views.{Meant, Standing, first_rows, first_answer, with_table, with_view, with_relation, views, verdict}
 use Rattle.sq_typed.proofs.ColumnLemmas.{columns-Relation, columns-Query, columns-Block, columns-Chain, columns-Intersect}
 use Rattle.sq_typed.proofs.FitEquations.{kinded_source-is, kinded-Relation, kinded-Query, kinded-Block, kinded-Chain, kinded-Intersect}
-use Rattle.sq_typed.proofs.FitQueries.{rows_of_query, operands_fit, length_widest, pairwise_mapped}
+use Rattle.sq_typed.proofs.FitQueries.{rows_of_query, operands_fit, length_widest}
+use Rattle.sq_typed.proofs.GivenRows.{pairwise_mapped}
 use Rattle.sq_typed.proofs.FitRows.{length_mapped}
 use Rattle.sq_typed.proofs.Tests.{and_left, and_right}
 use Rattle.sq_typed.proofs.Trees.{QueryCases, each_query, each_origin}

@@ -20,7 +20,7 @@ use Rattle.sq_expr.specs.Kinds.{IsOfKind, AreOfKinds}
 use Rattle.sq_expr.specs.Typing.{sort_of_kind, are_alike, is_typed_cond}
 use Rattle.sq_expr.proofs.Lists.{all_front, all_back, all_append, all_weaker}
 use Rattle.sq_expr.proofs.Names.{cond_names_in_range, members_narrower}
-use Rattle.sq_expr.proofs.Rows.{length_of_kinds, integers_are_bigints}
+use Rattle.sq_expr.proofs.Rows.{length_of_kinds, integers_are_bigints, kinds_joined, kinds_of_nulls}
 use Rattle.sq_typed.specs.declared.query.Block.{out-Block}
 use Rattle.sq_typed.specs.declared.query.FromItem.{FromItem}
 use Rattle.sq_typed.specs.declared.query.FromJoin.{FromJoin}
@@ -41,7 +41,8 @@ use Rattle.sq_typed.specs.Resolved.{wider}
 use Rattle.sq_typed.proofs.AnswerLemmas.{all_first}
 use Rattle.sq_typed.proofs.Equations.{source-is, member-is, origin-Relation, origin-Query, answer-Block, answer-Chain, answer-Intersect}
 use Rattle.sq_typed.proofs.FitEquations.{kinded_source-is, kinded-Relation, kinded-Query, kinded-Block, kinded-Chain, kinded-Intersect}
-use Rattle.sq_typed.proofs.FitRows.{Inside, length_filter, length_mapped, rows_of_where, rows_of_groups_are, rows_of_items, rows_once}
+use Rattle.sq_typed.proofs.FitRows.{Inside, length_filter, length_mapped, rows_of_groups_are, rows_of_items}
+use Rattle.sq_typed.proofs.GivenRows.{GoodParts, GoodSource, SourceGives, all_widths, once_of, origin_good, query_good, relation_gives, sources_widths, where_of}
 use Rattle.sq_typed.proofs.Tests.{and_left, and_right, all_filter}
 use Rattle.sq_typed.proofs.Trees.{QueryCases, each_query, each_origin}
 use Rattle.sq_typed.proofs.WhereLemmas.{where_keeps_the_last}
@@ -59,10 +60,6 @@ or_right true b e = cc
 pub none_pass : {A : Type 0} (p : A → Bool) (xs : List A) → list_any p xs ≡ false → AllByRecursion (λ x. p x ≡ false) xs
 none_pass p [] e = tt
 none_pass p (x ∷ xs) e = (or_left (p x) (list_any p xs) e, none_pass p xs (or_right (p x) (list_any p xs) e))
-
-pub pairwise_mapped : {A B C : Type 0} (P : B → C → Type 0) (f : A → B) (g : A → C) (xs : List A) → AllByRecursion (λ x. P (f x) (g x)) xs → Pairwise P (map f xs) (map g xs)
-pairwise_mapped P f g [] h = tt
-pairwise_mapped P f g (x ∷ xs) h = (h.0, pairwise_mapped P f g xs h.1)
 
 -- ---- range
 
@@ -84,12 +81,6 @@ in_range a e = record {
 abbrev Good : Answer → Kinded → Type 0
 Good a k = k.fits ≡ true → InRange a → GivesKinds a k.kinds
 
-abbrev GoodSource : Source → KindedSource → Type 0
-GoodSource s k = Good s.answer k.kinded
-
-abbrev SourceGives : Source → KindedSource → Type 0
-SourceGives s k = GivesKinds s.answer k.kinded.kinds
-
 -- ---- how many rows WHERE keeps
 
 stage_shrinks : (conds : List Cond) (join : FromJoin) (a : Answer) (before : List Row) → length (stage conds join a before).1 ≤ length (stage conds join a before).0
@@ -103,40 +94,25 @@ last_few widths conds k before (s ∷ ss) h few =
     last_few widths conds (suc k) (stage (members_at widths conds k) s.join s.answer before).1 ss
     (omega (arith, stage_shrinks (members_at widths conds k) s.join s.answer before, ltb-false (2 ^ 61) (length (stage (members_at widths conds k) s.join s.answer before).0) few.0)) few.1
 
-pub its_width : (a : Answer) (kinds : List Kind) → GivesKinds a kinds → HasItsWidth a
-its_width a kinds h = all_weaker (λ row. AreOfKinds row kinds) (λ row. length row ≡ a.width) a.rows (λ row r. length_of_kinds row kinds r ∙ sym h.0) h.1
-
-sources_widths : (ss : List Source) (ks : List KindedSource) → Pairwise SourceGives ss ks → AllByRecursion (λ s. HasItsWidth s.answer) ss
-sources_widths [] [] p = tt
-sources_widths [] (k ∷ ks) p = absurd p
-sources_widths (s ∷ ss) [] p = absurd p
-sources_widths (s ∷ ss) (k ∷ ks) p = (its_width s.answer k.kinded.kinds p.0, sources_widths ss ks p.1)
-
-all_widths : (ss : List Source) (ks : List KindedSource) → Pairwise SourceGives ss ks → width_of_all ss ≡ length (joined_kinds ks)
-all_widths [] [] p = refl
-all_widths [] (k ∷ ks) p = absurd p
-all_widths (s ∷ ss) [] p = absurd p
-all_widths (s ∷ ss) (k ∷ ks) p = omega (arith, p.0.0, all_widths ss ks p.1, length-append k.kinded.kinds (joined_kinds ks))
-
 pub members_fit : (kinds : List Kind) (where_ : Option Cond) → may_suit kinds where_ ≡ true → AllByRecursion (λ c. width_of (cond_columns c) ≤ length kinds) (members_of where_)
 members_fit kinds None e = tt
 members_fit kinds (Some c) e = members_narrower c (length kinds) (cond_names_in_range kinds c (and_left (is_typed_cond kinds c) (are_small kinds (cond_parts c)) e))
 
-kept_few : (ss : List Source) (ks : List KindedSource) (where_ : Option Cond) → Pairwise SourceGives ss ks → has_some ks ≡ true → may_suit (joined_kinds ks) where_ ≡ true →
+kept_few : (ss : List Source) (ks : List KindedSource) (where_ : Option Cond) → Pairwise (SourceGives AreOfKinds) ss ks → has_some ks ≡ true → may_suit (joined_kinds ks) where_ ≡ true →
     AllByRecursion IsFew (map (λ stage. stage.0) (stages (members_of where_) ss)) → length (kept (members_of where_) ss) ≤ 2 ^ 61
 kept_few [] [] where_ p some e few = absurd (cc some)
 kept_few [] (k ∷ ks) where_ p some e few = absurd p
 kept_few (s ∷ ss) [] where_ p some e few = absurd p
 kept_few (s ∷ ss) (k ∷ ks) where_ p some e few =
     subst (λ rows. length rows ≤ 2 ^ 61)
-    (sym (where_keeps_the_last (members_of where_) s ss (sources_widths (s ∷ ss) (k ∷ ks) p)
-    (subst (λ w. AllByRecursion (λ c. width_of (cond_columns c) ≤ w) (members_of where_)) (sym (all_widths (s ∷ ss) (k ∷ ks) p)) (members_fit (joined_kinds (k ∷ ks)) where_ e))))
+    (sym (where_keeps_the_last (members_of where_) s ss (sources_widths AreOfKinds length_of_kinds (s ∷ ss) (k ∷ ks) p)
+    (subst (λ w. AllByRecursion (λ c. width_of (cond_columns c) ≤ w) (members_of where_)) (sym (all_widths AreOfKinds (s ∷ ss) (k ∷ ks) p)) (members_fit (joined_kinds (k ∷ ks)) where_ e))))
     (last_few (widths_of (s ∷ ss)) (members_of where_) 1 ([] ∷ []) (s ∷ ss) (omega arith) few)
 
 -- ---- blocks
 
-sources_good : (before : List Kind) (ss : List Source) (ks : List KindedSource) → Pairwise GoodSource ss ks → sources_fit before ks ≡ true →
-    AllByRecursion IsFew (flat_map (λ s. s.answer.places) ss) → AllByRecursion Inside (flat_map (λ s. s.answer.tested) ss) → Pairwise SourceGives ss ks
+sources_good : (before : List Kind) (ss : List Source) (ks : List KindedSource) → Pairwise (GoodSource Good) ss ks → sources_fit before ks ≡ true →
+    AllByRecursion IsFew (flat_map (λ s. s.answer.places) ss) → AllByRecursion Inside (flat_map (λ s. s.answer.tested) ss) → Pairwise (SourceGives AreOfKinds) ss ks
 sources_good before [] [] p e few inside = tt
 sources_good before [] (k ∷ ks) p e few inside = absurd p
 sources_good before (s ∷ ss) [] p e few inside = absurd p
@@ -146,16 +122,6 @@ sources_good before (s ∷ ss) (k ∷ ks) p e few inside =
       p.0 (and_left k.kinded.fits (on_suits (before ++ k.kinded.kinds) k.join) now) (record { places = all_front IsFew s.answer.places (flat_map (λ s. s.answer.places) ss) few; tested = all_front Inside s.answer.tested (flat_map (λ s. s.answer.tested) ss) inside }),
       sources_good (before ++ k.kinded.kinds) ss ks p.1 later (all_back IsFew s.answer.places (flat_map (λ s. s.answer.places) ss) few) (all_back Inside s.answer.tested (flat_map (λ s. s.answer.tested) ss) inside),
     )
-
-sources_kinds : (ss : List Source) (ks : List KindedSource) → Pairwise SourceGives ss ks → Pairwise SourceGivesKinds ss (map (λ k. k.kinded.kinds) ks)
-sources_kinds [] [] p = tt
-sources_kinds [] (k ∷ ks) p = absurd p
-sources_kinds (s ∷ ss) [] p = absurd p
-sources_kinds (s ∷ ss) (k ∷ ks) p = (p.0, sources_kinds ss ks p.1)
-
-kinds_together : (ks : List KindedSource) → flat_map (λ ks. ks) (map (λ k. k.kinded.kinds) ks) ≡ joined_kinds ks
-kinds_together [] = refl
-kinds_together (k ∷ ks) = ap (λ rest. k.kinded.kinds ++ rest) (kinds_together ks)
 
 item_rows_kinds : (kinds : List Kind) (grouping : Option Grouping) (rows : List Row) → length rows ≤ 2 ^ 61 → AreAllOfKinds rows kinds → AllByRecursion Inside (tested_calls grouping rows) → AreAllOfKinds (item_rows grouping rows) (item_row_kinds kinds grouping)
 item_rows_kinds kinds None rows few h t = h
@@ -178,17 +144,17 @@ module _ (distinct : Bool) (ss : List Source) (ks : List KindedSource) (where_ :
   abbrev of_items : List Value
   of_items = flat_map (λ row. row) (selected items (item_rows grouping block_rows))
 
-  block_gives : Pairwise SourceGives ss ks → has_some ks ≡ true → may_suit source_kinds where_ ≡ true → AllByRecursion IsFew (map (λ stage. stage.0) (stages (members_of where_) ss)) → AllByRecursion Inside of_calls →
+  block_gives : Pairwise (SourceGives AreOfKinds) ss ks → has_some ks ≡ true → may_suit source_kinds where_ ≡ true → AllByRecursion IsFew (map (λ stage. stage.0) (stages (members_of where_) ss)) → AllByRecursion Inside of_calls →
       AllByRecursion Inside of_items → GivesKinds (block_answer distinct ss where_ grouping items) (map (kind_of (item_row_kinds source_kinds grouping)) items)
   block_gives p some e few calls inside = (
     sym (length_mapped (kind_of (item_row_kinds source_kinds grouping)) items),
-    rows_once distinct (map (kind_of (item_row_kinds source_kinds grouping)) items) (selected items (item_rows grouping block_rows))
+    once_of AreOfKinds distinct (map (kind_of (item_row_kinds source_kinds grouping)) items) (selected items (item_rows grouping block_rows))
         (rows_of_items (item_row_kinds source_kinds grouping) items (item_rows grouping block_rows)
         (item_rows_kinds source_kinds grouping block_rows (kept_few ss ks where_ p some e few)
-        (subst (AreAllOfKinds block_rows) (kinds_together ks) (rows_of_where (members_of where_) ss (map (λ k. k.kinded.kinds) ks) (sources_kinds ss ks p))) calls) inside),
+        (where_of AreOfKinds kinds_joined kinds_of_nulls (members_of where_) ss ks p) calls) inside),
   )
 
-  block_good : Pairwise GoodSource ss ks → Good (block_answer distinct ss where_ grouping items) (block_kinded ks where_ grouping items)
+  block_good : Pairwise (GoodSource Good) ss ks → Good (block_answer distinct ss where_ grouping items) (block_kinded ks where_ grouping items)
   block_good p fits range =
       let from_part = and_left (has_some ks && sources_fit [] ks) (clauses_fit source_kinds where_ grouping items) fits in
       let clauses = and_right (has_some ks && sources_fit [] ks) (clauses_fit source_kinds where_ grouping items) fits in
@@ -340,54 +306,20 @@ intersect_good (a ∷ answers) (m ∷ ms) p fits range = operation_good (λ rows
 
 -- ---- queries
 
-relation_good : (cs : List Contents) (kss : List (List Kind)) → Pairwise HoldsKinds cs kss → (n : ℕ) → Good (relation_answer (get_or cs n (record { width = 0; rows = [] }))) (relation_kinded (slice_get kss n))
-relation_good [] [] p n fits range = absurd (cc fits)
-relation_good [] (ks ∷ kss) p n fits range = absurd p
-relation_good (c ∷ cs) [] p n fits range = absurd p
-relation_good (c ∷ cs) (ks ∷ kss) p zero fits range = p.0
-relation_good (c ∷ cs) (ks ∷ kss) p (suc n) fits range = relation_good cs kss p.1 n fits range
-
 module _ (relations : List Contents) (kss : List (List Kind)) (holds : Pairwise HoldsKinds relations kss) where
-  abbrev OriginGood : Origin → Type 0
-  OriginGood o = Good (origin_answer relations o) (kinded_origin kss o)
-
-  abbrev QueryGood : Query → Type 0
-  QueryGood q = Good (answer relations q) (kinded kss q)
-
-  -- what an answer and its kinds are equal to
-  good_at : (a b : Answer) (k m : Kinded) → a ≡ b → k ≡ m → Good b m → Good a k
-  good_at a b k m ea ek g = subst (λ a. Good a k) (sym ea) (subst (Good b) (sym ek) g)
-
-  good_source : (s : FromItem) → OriginGood s.source → GoodSource (source_of_item relations s) (kinded_source kss s)
-  good_source s g = good_at (source_of_item relations s).answer (origin_answer relations s.source) (kinded_source kss s).kinded (kinded_origin kss s.source) (ap (λ s. s.answer) (source-is relations s)) (ap (λ k. k.kinded) (kinded_source-is kss s)) g
-
-  good_member : (s : SetStep) → QueryGood s.query → Good (member_answer relations s).1 (kinded kss s.query)
-  good_member s g = subst (λ m. Good m.1 (kinded kss s.query)) (sym (member-is relations s)) g
-
-  good_cases : QueryCases OriginGood QueryGood
-  good_cases = record {
-    block = λ b gs. good_at (answer relations (query.Block b)) (block_answer (out-Block b).distinct (map (source_of_item relations) (out-Block b).sources) (out-Block b).filter (out-Block b).grouping (out-Block b).items)
-        (kinded kss (query.Block b)) (block_kinded (map (kinded_source kss) (out-Block b).sources) (out-Block b).filter (out-Block b).grouping (out-Block b).items) (answer-Block relations b) (kinded-Block kss b)
-        (block_good (out-Block b).distinct (map (source_of_item relations) (out-Block b).sources) (map (kinded_source kss) (out-Block b).sources) (out-Block b).filter (out-Block b).grouping (out-Block b).items
-        (pairwise_mapped GoodSource (source_of_item relations) (kinded_source kss) (out-Block b).sources
-        (all_weaker (λ s. OriginGood s.source) (λ s. GoodSource (source_of_item relations s) (kinded_source kss s)) (out-Block b).sources good_source gs)));
-    chain = λ q rest g gs. good_at (answer relations (query.Chain q rest)) (chain_answer (λ rows s. set_rows s.0 rows s.1.rows) (λ s. s.1) (answer relations q) (map (member_answer relations) rest))
-        (kinded kss (query.Chain q rest)) (operation_kinded (kinded kss q ∷ map (λ s. kinded kss s.query) rest)) (answer-Chain relations q rest) (kinded-Chain kss q rest)
-        (chain_good (answer relations q) (kinded kss q) (map (member_answer relations) rest) (map (λ s. kinded kss s.query) rest) g
-        (pairwise_mapped (λ s m. Good s.1 m) (member_answer relations) (λ s. kinded kss s.query) rest
-        (all_weaker (λ s. QueryGood s.query) (λ s. Good (member_answer relations s).1 (kinded kss s.query)) rest good_member gs)));
-    intersect = λ qs gs. good_at (answer relations (query.Intersect qs)) (intersect_answer (map (answer relations) qs)) (kinded kss (query.Intersect qs)) (operation_kinded (map (kinded kss) qs))
-        (answer-Intersect relations qs) (kinded-Intersect kss qs) (intersect_good (map (answer relations) qs) (map (kinded kss) qs) (pairwise_mapped Good (answer relations) (kinded kss) qs gs));
-    relation = λ n. good_at (origin_answer relations (origin.Relation n)) (relation_answer (get_or relations n (record { width = 0; rows = [] }))) (kinded_origin kss (origin.Relation n)) (relation_kinded (slice_get kss n))
-        (origin-Relation relations n) (kinded-Relation kss n) (relation_good relations kss holds n);
-    of_query = λ q g. good_at (origin_answer relations (origin.Query q)) (answer relations q) (kinded_origin kss (origin.Query q)) (kinded kss q) (origin-Query relations q) (kinded-Query kss q) g;
+  good_parts : GoodParts Good relations kss
+  good_parts = record {
+    block = λ distinct ss ks filter grouping items. block_good distinct ss ks filter grouping items;
+    chain = chain_good;
+    intersect = intersect_good;
+    relation = λ n fits range. relation_gives AreOfKinds relations kss holds n fits;
   }
 
   pub origin_gives : (o : Origin) → (kinded_origin kss o).fits ≡ true → InRange (origin_answer relations o) → GivesKinds (origin_answer relations o) (kinded_origin kss o).kinds
-  origin_gives o fits range = each_origin OriginGood QueryGood good_cases o fits range
+  origin_gives o fits range = origin_good Good relations kss good_parts o fits range
 
   pub query_gives : (q : Query) → Fits kss q → InRange (answer relations q) → GivesKinds (answer relations q) (kinds_given kss q)
-  query_gives q fits range = each_query OriginGood QueryGood good_cases q fits range
+  query_gives q fits range = query_good Good relations kss good_parts q fits range
 
 -- the rows of a query that fits are of its kinds, where nothing of it is out of range
 pub rows_of_query : (relations : List Contents) (kss : List (List Kind)) → Pairwise HoldsKinds relations kss → (q : Query) → Fits kss q → has_range_fault (answer relations q) ≡ false → GivesKinds (answer relations q) (kinds_given kss q)

@@ -36,77 +36,21 @@ use Rattle.sq_typed.specs.Numbered.{kind_step, kind_of, call_kind}
 use Rattle.sq_expr.specs.Extremes.{greatest_or_null, least_or_null}
 use Rattle.sq_typed.specs.Queries.{is_outside}
 use Rattle.sq_typed.proofs.AnswerLemmas.{all_first}
+use Rattle.sq_typed.proofs.GivenRows.{IsNumber, from_of, greatest_of, joined_of, kept_of, least_of, number_folded, number_negative, number_sum}
 use Rattle.sq_typed.proofs.Tests.{every, all_filter}
 
 -- ---- FROM
 
-module _ (before kinds : List Kind) where
-  abbrev Joined : Row → Type 0
-  Joined row = AreOfKinds row (before ++ kinds)
-
-  behind_row : (row : Row) → AreOfKinds row before → (others : List Row) → AreAllOfKinds others kinds → AllByRecursion Joined (map (λ other. row ++ other) others)
-  behind_row row h [] k = tt
-  behind_row row h (other ∷ others) k = (kinds_joined row other before kinds h k.0, behind_row row h others k.1)
-
-  matches_kinds : (conds : List Cond) (row : Row) → AreOfKinds row before → (others : List Row) → AreAllOfKinds others kinds → AllByRecursion Joined (matches conds others row)
-  matches_kinds conds row h others k = all_filter Joined (all_hold conds) (map (λ other. row ++ other) others) (behind_row row h others k)
-
-  padded_kinds : (width : ℕ) (row : Row) → width ≡ length kinds → AreOfKinds row before → (rows : List Row) → AllByRecursion Joined rows → AllByRecursion Joined (or_padded width row rows)
-  padded_kinds width row w h [] k = (kinds_joined row (replicate width Null) before kinds h (subst (λ n. AreOfKinds (replicate n Null) kinds) (sym w) (kinds_of_nulls kinds)), tt)
-  padded_kinds width row w h (r ∷ rs) k = k
-
-  inner_kinds : (conds : List Cond) (others rows : List Row) → AreAllOfKinds rows before → AreAllOfKinds others kinds → AllByRecursion Joined (inner conds others rows)
-  inner_kinds conds others rows h k = all_flattened Joined (matches conds others) rows (all_weaker (λ row. AreOfKinds row before) (λ row. AllByRecursion Joined (matches conds others row)) rows (λ row r. matches_kinds conds row r others k) h)
-
-  pub joined_kinds_are : (join : FromJoin) (a : Answer) (rows : List Row) → AreAllOfKinds rows before → GivesKinds a kinds → AllByRecursion Joined (joined_by [] join a rows)
-  joined_kinds_are Comma a rows h k = inner_kinds [] a.rows rows h k.1
-  joined_kinds_are (Inner on) a rows h k = inner_kinds (on ∷ []) a.rows rows h k.1
-  joined_kinds_are (Left on) a rows h k =
-      all_flattened Joined (λ row. or_padded a.width row (matches (on ∷ []) a.rows row)) rows
-      (all_weaker (λ row. AreOfKinds row before) (λ row. AllByRecursion Joined (or_padded a.width row (matches (on ∷ []) a.rows row))) rows
-      (λ row r. padded_kinds a.width row k.0 r (matches (on ∷ []) a.rows row) (matches_kinds (on ∷ []) row r a.rows k.1)) h)
-
--- rows joined with some further sources
-from_kinds : (before : List Kind) (rows : List Row) (ss : List Source) (kss : List (List Kind)) → AreAllOfKinds rows before → Pairwise SourceGivesKinds ss kss →
-    AreAllOfKinds (fold (λ rows s. joined_by [] s.join s.answer rows) rows ss) (before ++ flat_map (λ ks. ks) kss)
-from_kinds before rows [] [] h p = subst (AreAllOfKinds rows) (sym (append-nil before)) h
-from_kinds before rows [] (ks ∷ kss) h p = absurd p
-from_kinds before rows (s ∷ ss) [] h p = absurd p
-from_kinds before rows (s ∷ ss) (ks ∷ kss) h p =
-    subst (AreAllOfKinds (fold (λ rows s. joined_by [] s.join s.answer rows) (joined_by [] s.join s.answer rows) ss)) (append_assoc before ks (flat_map (λ ks. ks) kss))
-    (from_kinds (before ++ ks) (joined_by [] s.join s.answer rows) ss kss (joined_kinds_are before ks s.join s.answer rows h p.0) p.1)
+pub joined_kinds_are : (before kinds : List Kind) (join : FromJoin) (a : Answer) (rows : List Row) → AreAllOfKinds rows before → GivesKinds a kinds → AllByRecursion (λ row. AreOfKinds row (before ++ kinds)) (joined_by [] join a rows)
+joined_kinds_are before kinds join a rows h g = joined_of AreOfKinds kinds_joined kinds_of_nulls before kinds join a rows h g
 
 pub rows_of_from : (sources : List Source) (kinds : List (List Kind)) → Pairwise SourceGivesKinds sources kinds → AreAllOfKinds (from sources) (flat_map (λ ks. ks) kinds)
-rows_of_from sources kinds p = from_kinds [] ([] ∷ []) sources kinds (tt, tt) p
+rows_of_from sources kinds p = from_of AreOfKinds kinds_joined kinds_of_nulls sources kinds p
 
 pub rows_of_where : (conds : List Cond) (sources : List Source) (kinds : List (List Kind)) → Pairwise SourceGivesKinds sources kinds → AreAllOfKinds (kept conds sources) (flat_map (λ ks. ks) kinds)
-rows_of_where conds sources kinds p = all_filter (λ row. AreOfKinds row (flat_map (λ ks. ks) kinds)) (all_hold conds) (from sources) (rows_of_from sources kinds p)
+rows_of_where conds sources kinds p = kept_of AreOfKinds kinds_joined kinds_of_nulls conds sources kinds p
 
 -- ---- values of expressions
-
--- a number or NULL
-NoText : Value → Type 0
-NoText Null = ⊤
-NoText (Int x) = ⊤
-NoText (Text t) = ⊥
-
-no_text_of_both : (f : ℤ → ℤ → ℤ) (x y : Value) → NoText (of_both f x y)
-unfolding NoText
-no_text_of_both f (Int x) (Int y) = tt
-no_text_of_both f (Int x) Null = tt
-no_text_of_both f (Int x) (Text t) = tt
-no_text_of_both f Null y = tt
-no_text_of_both f (Text t) y = tt
-
-no_text_folded : (f : ℤ → ℤ → ℤ) (x : Value) (xs : List Value) → NoText x → NoText (fold (of_both f) x xs)
-no_text_folded f x [] h = h
-no_text_folded f x (y ∷ ys) h = no_text_folded f (of_both f x y) ys (no_text_of_both f x y)
-
-no_text_negative : (x : Value) → NoText (negative x)
-unfolding NoText
-no_text_negative Null = tt
-no_text_negative (Int x) = tt
-no_text_negative (Text t) = tt
 
 fits_pos : (n : ℕ) (b : Bool) → nat_lt n (2 ^ 63) ≡ b → not b ≡ false → FitsSigned w64 (pos n)
 fits_pos n true e h = record { sfits = omega (arith, ints, ltb-true n (2 ^ 63) e) }
@@ -117,8 +61,7 @@ fits_neg n true e h = record { sfits = omega (arith, ints, ltb-true n (2 ^ 63) e
 fits_neg n false e h = absurd (cc h)
 
 -- a number inside BIGINT is a BIGINT
-inside_is_bigint : (x : Value) → NoText x → is_outside x ≡ false → IsOfKind x kind.Bigint
-unfolding NoText
+inside_is_bigint : (x : Value) → IsNumber x → is_outside x ≡ false → IsOfKind x kind.Bigint
 inside_is_bigint Null n h = tt
 inside_is_bigint (Int (pos n)) t h = fits_pos n (nat_lt n (2 ^ 63)) refl h
 inside_is_bigint (Int (negsuc n)) t h = fits_neg n (nat_lt n (2 ^ 63)) refl h
@@ -135,17 +78,16 @@ module _ (kinds : List Kind) (row : Row) (h : AreOfKinds row kinds) where
   abbrev OfItsKind : Expr → Kind → Type 0
   OfItsKind e k = is_outside (num e row) ≡ false → IsOfKind (num e row) k
 
-  computed : (e : Expr) (x : Value) → num e row ≡ x → NoText x → OfItsKind e kind.Bigint
-  computed e x is n inside = inside_is_bigint (num e row) (subst NoText (sym is) n) inside
+  computed : (e : Expr) (x : Value) → num e row ≡ x → IsNumber x → OfItsKind e kind.Bigint
+  computed e x is n inside = inside_is_bigint (num e row) (subst IsNumber (sym is) n) inside
 
   level_kind : (x : Expr-F Expr Term) → OfItsKind (roll-Expr x) (kind_step kinds x)
-  unfolding NoText
   level_kind (Expr-F.Column n) = subst (λ e. OfItsKind e (get_or kinds n kind.Bigint)) (sym (expr.rolls-Column n)) (λ inside. subst (λ x. IsOfKind x (get_or kinds n kind.Bigint)) (sym (num-Column n row)) (column_kind row kinds n h))
   level_kind (Expr-F.Number n) = subst (λ e. OfItsKind e kind.Bigint) (sym (expr.rolls-Number n)) (computed (expr.Number n) (Int (pos n)) (num-Number n row) tt)
   level_kind (Expr-F.Text t) = subst (λ e. OfItsKind e kind.Text) (sym (expr.rolls-Text t)) (λ inside. subst (λ x. IsOfKind x kind.Text) (sym (num-Text t row)) tt)
-  level_kind (Expr-F.Neg e) = subst (λ e. OfItsKind e kind.Bigint) (sym (expr.rolls-Neg e)) (computed (expr.Neg e) (negative (num e row)) (num-Neg e row) (no_text_negative (num e row)))
-  level_kind (Expr-F.Sum ts) = subst (λ e. OfItsKind e kind.Bigint) (sym (expr.rolls-Sum ts)) (computed (expr.Sum ts) (sum_of (map (λ t. term_num t row) ts)) (num-Sum ts row) (no_text_folded ◌+ℤ◌ (Int (pos 0)) (map (λ t. term_num t row) ts) tt))
-  level_kind (Expr-F.Product es) = subst (λ e. OfItsKind e kind.Bigint) (sym (expr.rolls-Product es)) (computed (expr.Product es) (product_of (map (λ e. num e row) es)) (num-Product es row) (no_text_folded ◌*ℤ◌ (Int (pos 1)) (map (λ e. num e row) es) tt))
+  level_kind (Expr-F.Neg e) = subst (λ e. OfItsKind e kind.Bigint) (sym (expr.rolls-Neg e)) (computed (expr.Neg e) (negative (num e row)) (num-Neg e row) (number_negative (num e row)))
+  level_kind (Expr-F.Sum ts) = subst (λ e. OfItsKind e kind.Bigint) (sym (expr.rolls-Sum ts)) (computed (expr.Sum ts) (sum_of (map (λ t. term_num t row) ts)) (num-Sum ts row) (number_folded ◌+ℤ◌ (Int (pos 0)) (map (λ t. term_num t row) ts) tt))
+  level_kind (Expr-F.Product es) = subst (λ e. OfItsKind e kind.Bigint) (sym (expr.rolls-Product es)) (computed (expr.Product es) (product_of (map (λ e. num e row) es)) (num-Product es row) (number_folded ◌*ℤ◌ (Int (pos 1)) (map (λ e. num e row) es) tt))
 
   -- a value that is no number outside BIGINT is of its expression's kind
   pub value_kind : (e : Expr) → is_outside (num e row) ≡ false → IsOfKind (num e row) (kind_of kinds e)
@@ -163,10 +105,6 @@ rows_of_items kinds items (row ∷ rows) h t = (
   item_kinds_are kinds row h.0 items (all_front (λ x. is_outside x ≡ false) (map (λ e. num e row) items) (flat_map (λ row. row) (selected items rows)) t),
   rows_of_items kinds items rows h.1 (all_back (λ x. is_outside x ≡ false) (map (λ e. num e row) items) (flat_map (λ row. row) (selected items rows)) t),
 )
-
-pub rows_once : (distinct : Bool) (kinds : List Kind) (rows : List Row) → AreAllOfKinds rows kinds → AreAllOfKinds (without_repeats distinct rows) kinds
-rows_once true kinds rows h = all_first (λ row. AreOfKinds row kinds) rows h
-rows_once false kinds rows h = h
 
 -- ---- calls
 
@@ -204,36 +142,14 @@ length_arguments (Some e) rows = omega (arith, length_mapped (num e) rows)
 number_of_rows : (n : ℕ) → n ≤ 2 ^ 61 → FitsSigned w64 (pos n)
 number_of_rows n h = record { sfits = omega (arith, ints, h) }
 
--- one of two values
-either_kind : (k : Kind) (b : Bool) (x y : Value) → IsOfKind x k → IsOfKind y k → IsOfKind (cond b x y) k
-either_kind k true x y h i = h
-either_kind k false x y h i = i
-
-chosen_kind : (k : Kind) (test : Value → Value → Bool) (a : Value) (xs : List Value) → IsOfKind a k → AllByRecursion (λ x. IsOfKind x k) xs → IsOfKind (fold (λ a b. cond (test a b) b a) a xs) k
-chosen_kind k test a [] h hs = h
-chosen_kind k test a (x ∷ xs) h hs = chosen_kind k test (cond (test a x) x a) xs (either_kind k (test a x) x a hs.0 h) hs.1
-
-least_kind : (k : Kind) (xs : List Value) → AllByRecursion (λ x. IsOfKind x k) xs → IsOfKind (least_or_null xs) k
-least_kind k [] h = tt
-least_kind k (x ∷ xs) h = chosen_kind k (λ a b. is_lt (value_cmp b a)) x xs h.0 h.1
-
-greatest_kind : (k : Kind) (xs : List Value) → AllByRecursion (λ x. IsOfKind x k) xs → IsOfKind (greatest_or_null xs) k
-greatest_kind k [] h = tt
-greatest_kind k (x ∷ xs) h = chosen_kind k (λ a b. is_lt (value_cmp a b)) x xs h.0 h.1
-
-sum_no_text : (xs : List Value) → NoText (sum_or_null xs)
-unfolding NoText
-sum_no_text [] = tt
-sum_no_text (x ∷ xs) = no_text_folded ◌+ℤ◌ (Int (pos 0)) (x ∷ xs) tt
-
 call_kind_is : (kinds : List Kind) (f : Func) (arg : Option Expr) (rows : List Row) → length rows ≤ 2 ^ 61 → AllByRecursion (OfArgument kinds arg) rows → (is_sum f ≡ true → Inside (call_value f arg rows)) → IsOfKind (call_value f arg rows) (call_kind kinds f arg)
 call_kind_is kinds CountAll arg rows few h t = number_of_rows (length rows) few
 call_kind_is kinds Count arg rows few h t = number_of_rows (length (present (arguments arg rows))) (omega (arith, few, length_filter (λ x. not (is_null x)) (arguments arg rows), length_arguments arg rows))
-call_kind_is kinds Sum arg rows few h t = inside_is_bigint (sum_or_null (present (arguments arg rows))) (sum_no_text (present (arguments arg rows))) (t refl)
+call_kind_is kinds Sum arg rows few h t = inside_is_bigint (sum_or_null (present (arguments arg rows))) (number_sum (present (arguments arg rows))) (t refl)
 call_kind_is kinds Min None rows few h t = tt
-call_kind_is kinds Min (Some e) rows few h t = least_kind (kind_of kinds e) (present (map (num e) rows)) (all_filter (λ x. IsOfKind x (kind_of kinds e)) (λ x. not (is_null x)) (map (num e) rows) (values_kinds kinds e rows h))
+call_kind_is kinds Min (Some e) rows few h t = least_of (λ x. IsOfKind x (kind_of kinds e)) tt (present (map (num e) rows)) (all_filter (λ x. IsOfKind x (kind_of kinds e)) (λ x. not (is_null x)) (map (num e) rows) (values_kinds kinds e rows h))
 call_kind_is kinds Max None rows few h t = tt
-call_kind_is kinds Max (Some e) rows few h t = greatest_kind (kind_of kinds e) (present (map (num e) rows)) (all_filter (λ x. IsOfKind x (kind_of kinds e)) (λ x. not (is_null x)) (map (num e) rows) (values_kinds kinds e rows h))
+call_kind_is kinds Max (Some e) rows few h t = greatest_of (λ x. IsOfKind x (kind_of kinds e)) tt (present (map (num e) rows)) (all_filter (λ x. IsOfKind x (kind_of kinds e)) (λ x. not (is_null x)) (map (num e) rows) (values_kinds kinds e rows h))
 
 -- ---- groups
 

@@ -13,9 +13,11 @@ pub mod QueryEquations
 pub mod FaultLemmas
 pub mod FaultLaws
 pub mod ProgramExampleLemmas
+pub mod GivenRows
 pub mod FitRows
 pub mod FitEquations
 pub mod FitQueries
+pub mod Sorting
 pub mod FitPrograms
 pub mod FitTests
 pub mod FitBlocks

@@ -23,3 +23,4 @@ pub mod Written
 pub mod Checked
 pub mod Within
 pub mod FitExamples
+pub mod Sorts

@@ -10,6 +10,7 @@ pub mod laws;
 mod limits;
 mod program;
 mod query;
+pub mod sort_laws;
 mod update;
 
 pub use check_kind::CheckKind;

@@ -8,7 +8,7 @@ use Rattle.sq_value.specs.Order.{row_cmp}
 use Rattle.sq_value.specs.OrderLaws.{row_cmp-total}
 use Rattle.sq_algebra.specs.Listed.{count}
 use Rattle.sq_algebra.specs.Operators.{weighing}
-use Rattle.sq_algebra.specs.ZSet.{entries, entries-zero, from_pairs, of_list, zero as no_rows}
+use Rattle.sq_algebra.specs.ZSet.{entries, from_pairs, of_list}
 use Rattle.sq_algebra.proofs.LinearLemmas.{entry_weight}
 use Rattle.sq_algebra.proofs.Weights.{entries-from_pairs, weight-of_list}
 use Rattle.sq_zset.specs.declared.pair.Pair.{Pair}
@@ -49,9 +49,6 @@ counts_in_range rows few = all_in_range (entries (of_list row_cmp rows)) (λ i d
 pub of_counted : (rows : List (List Value)) (pairs : List Pair) → weighted_rows pairs ≡ weighing (pos 1) rows → from_pairs row_cmp (weighted_rows pairs) ≡ of_list row_cmp rows
 unfolding of_list
 of_counted rows pairs counted = ap (from_pairs row_cmp) counted
-
-pub none_in_range : IsInRange (no_rows row_cmp)
-none_in_range = ap first_outside_in (entries-zero row_cmp)
 
 -- so no count is a sum outside
 pub never_outside : (rows : List (List Value)) (pairs : List Pair) (sum : ℤ) → weighted_rows pairs ≡ weighing (pos 1) rows → length rows ≤ 2 ^ 62 → first_outside (from_pairs row_cmp (weighted_rows pairs)) ≡ Some sum → ⊥

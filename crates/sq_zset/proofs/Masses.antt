@@ -1,19 +1,24 @@
 -- The mass of a Z-set of rows, the sum of its absolute weights.
-use Rattle.std.proofs.Common.{◌≡◌, ℕ, ◌+◌, ◌*◌, ◌≤◌, ◌+ℤ◌, ◌*ℤ◌, ◌≤ℤ◌, List, [], ◌∷◌, ◌++◌, length, Bool, true, false, cond, ℤ, pos, negsuc, neg_ℤ, unsigned_abs, get_or, Option, Some, None, refl, sym, ap, ap₂, subst, ◌∙◌, mul-add, add-mul, is_eq, arith}
+use Rattle.std.proofs.Common.{◌≡◌, ℕ, ◌+◌, ◌*◌, ◌^◌, ◌<◌, ◌≤◌, ◌+ℤ◌, ◌⊎◌, inl, inr, Equal, ◌*ℤ◌, ◌≤ℤ◌, List, [], ◌∷◌, ◌++◌, length, Bool, true, false, not, cond, ℤ, pos, negsuc, neg_ℤ, unsigned_abs, get_or, Option, Some, None, refl, sym, ap, ap₂, subst, ◌∙◌, mul-add, add-mul, is_eq, arith}
 use Rattle.std.specs.List.{All, AllByRecursion, filter, flat_map}
+use Rattle.std.proofs.lemmas.Bool.{le-leb}
 use Rattle.std.proofs.lemmas.Int.{unsigned_abs-mul}
 use Rattle.std.proofs.lemmas.List.Elements.{recursion_from_All}
 use Rattle.std.proofs.lemmas.List.Sums.{sum_by-append, sum_by-cons}
 use borrow.Author.Differences.{ints}
 use Rattle.sq_value.specs.declared.value.Value.{Value}
 use Rattle.sq_value.specs.Order.{row_cmp}
-use Rattle.sq_value.specs.OrderLaws.{row_cmp-total}
+use Rattle.sq_value.specs.OrderLaws.{row_cmp-antisymmetric, row_cmp-total}
 use Rattle.sq_algebra.specs.Operators.{IsNonNegative, image, keep, pairs_where, product, weighing, where_same}
-use Rattle.sq_algebra.specs.ZSet.{ZSet, collect, entries, from_pairs, int_sum_by, minus, negate, negated, plus, total}
+use Rattle.sq_algebra.specs.ZSet.{ZSet, collect, entries, from_pairs, int_sum_by, minus, negate, negated, plus, total, weight, weight_in}
+use Rattle.sq_algebra.proofs.KeyedLemmas.{found}
 use Rattle.sq_algebra.proofs.LinearLemmas.{entry_weight}
 use Rattle.sq_algebra.proofs.Weights.{entries-from_pairs, total-entries}
 use Rattle.sq_zset.specs.Collecting.{mass_of}
+use Rattle.sq_zset.specs.Range.{IsInRange, first_outside_in, is_in_range}
 use Rattle.sq_zset.proofs.Collecting.{mass_of-add}
+use Rattle.sq_zset.proofs.Counting.{all_in_range}
+use Rattle.sq_zset.proofs.Entries.{in_range_at}
 
 -- ---- lists of pairs
 collected : (ps : List (List Value × ℤ)) → mass_of (collect row_cmp ps) ≤ mass_of ps
@@ -141,3 +146,30 @@ pub mass-total : (z : ZSet (List Value) row_cmp) → IsNonNegative z → pos (ma
 mass-total z above =
     let each : All (λ (e : List Value × ℤ). pos 0 ≤ℤ e.1) (entries z) = λ i d low. subst (λ n. pos 0 ≤ℤ n) (entry_weight row_cmp row_cmp-total z i d low) (above (get_or (entries z) i d).0) in
     counted (entries z) (recursion_from_All (λ (e : List Value × ℤ). pos 0 ≤ℤ e.1) (entries z) each) ∙ sym (total-entries row_cmp z)
+
+-- ---- ranges
+light : (es : List (List Value × ℤ)) → mass_of es ≤ 2 ^ 62 → first_outside_in es ≡ None
+light [] h = refl
+light (e ∷ es) h =
+    let whole = sum_by-cons (λ (d : List Value × ℤ). unsigned_abs d.1) e es in
+    let fits : unsigned_abs e.1 ≤ 2 ^ 62 = omega arith in
+    ap (λ b. cond (not b) (Some e.1) (first_outside_in es)) (le-leb (unsigned_abs e.1) (2 ^ 62) fits) ∙ light es (omega arith)
+
+pub mass-in_range : (z : ZSet (List Value) row_cmp) → mass_of (entries z) ≤ 2 ^ 62 → IsInRange z
+mass-in_range z h = light (entries z) h
+
+-- all weights lie in the range exactly if that of each row does
+pub weights-in_range : (z : ZSet (List Value) row_cmp) → IsInRange z → (row : List Value) → unsigned_abs (weight row z) ≤ 2 ^ 62
+unfolding weight
+weights-in_range z h row = step (found row_cmp row_cmp-total row_cmp-antisymmetric row_cmp row_cmp-total row_cmp-antisymmetric (λ r. r) row (unsigned_abs (weight row z) ≤ 2 ^ 62) (entries z) at)
+  where
+    at : (i : ℕ) (d : List Value × ℤ) → i < length (entries z) → row_cmp row (get_or (entries z) i d).0 ≡ Equal → unsigned_abs (weight row z) ≤ 2 ^ 62
+    at i d low same =
+        subst (λ n. unsigned_abs n ≤ 2 ^ 62) (sym (ap (λ r. weight r z) (row_cmp-antisymmetric row (get_or (entries z) i d).0 same) ∙ entry_weight row_cmp row_cmp-total z i d low)) (in_range_at (entries z) i d h low)
+
+    step : (weight_in row_cmp row (entries z) ≡ pos 0) ⊎ (unsigned_abs (weight row z) ≤ 2 ^ 62) → unsigned_abs (weight row z) ≤ 2 ^ 62
+    step (inl none) = subst (λ n. unsigned_abs n ≤ 2 ^ 62) (sym none) (omega arith)
+    step (inr within) = within
+
+pub in_range-weights : (z : ZSet (List Value) row_cmp) → ((row : List Value) → unsigned_abs (weight row z) ≤ 2 ^ 62) → IsInRange z
+in_range-weights z h = all_in_range (entries z) (λ i d low. ap is_in_range (sym (entry_weight row_cmp row_cmp-total z i d low)) ∙ le-leb _ _ (h (get_or (entries z) i d).0))

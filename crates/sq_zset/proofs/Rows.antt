@@ -1,11 +1,15 @@
 -- The laws of Z-sets and of lists with counts, for rows.
-use Rattle.std.proofs.Common.{◌≡◌, List, ◌++◌, map, cond, ◌==◌, T, ℤ, pos, ◌+ℤ◌, ◌-ℤ◌, neg_ℤ, length, IsPermutation, is_eq}
+use Rattle.std.proofs.Common.{◌≡◌, List, ◌++◌, map, Bool, cond, ◌==◌, T, ℤ, pos, ◌+ℤ◌, ◌-ℤ◌, neg_ℤ, length, IsPermutation, is_eq}
+use Rattle.std.specs.List.{list_all}
 use Rattle.sq_value.specs.declared.value.Value.{Value}
 use Rattle.sq_value.specs.Order.{row_cmp}
 use Rattle.sq_value.specs.OrderLaws.{row_cmp-total, row_cmp-antisymmetric}
 use Rattle.sq_algebra.specs.Listed.{count, is_ascending, in_order, changed}
 use Rattle.sq_algebra.specs.ZSet.{ZSet, entries, zero, single, from_pairs, of_list, weight, weight_in, total, plus, negate, minus}
+use Rattle.sq_algebra.specs.Operators.{IsNonNegative, repeated}
+use Rattle.sq_algebra.specs.Passing.{all_pass}
 use Rattle.sq_algebra.proofs.Lists as lists
+use Rattle.sq_algebra.proofs.NonNegativeLemmas as nonnegative
 use Rattle.sq_algebra.proofs.Weights as weights
 use Rattle.sq_algebra.proofs.Changes as changes
 
@@ -68,3 +72,16 @@ count-changed = lists.count-changed row_cmp row_cmp-total
 
 pub entries_change : (before now : List (List Value)) → entries (minus (of_list row_cmp now) (of_list row_cmp before)) ≡ map (λ row. (row, pos (count row_cmp row now) -ℤ pos (count row_cmp row before))) (changed row_cmp before now)
 entries_change = changes.entries_change row_cmp row_cmp-total row_cmp-antisymmetric
+
+-- ---- Z-sets without weights below 0
+pub nonnegative-of_list : (rows : List (List Value)) → IsNonNegative (of_list row_cmp rows)
+nonnegative-of_list = nonnegative.nonnegative-of_list row_cmp row_cmp-total
+
+pub of_list-repeated : (z : ZSet (List Value) row_cmp) → IsNonNegative z → of_list row_cmp (repeated z) ≡ z
+of_list-repeated = nonnegative.of_list-repeated row_cmp row_cmp-total row_cmp-antisymmetric
+
+pub total-repeated : (z : ZSet (List Value) row_cmp) → IsNonNegative z → total z ≡ pos (length (repeated z))
+total-repeated = nonnegative.total-repeated row_cmp row_cmp-total row_cmp-antisymmetric
+
+pub list_all-repeated : (p : List Value → Bool) (z : ZSet (List Value) row_cmp) → IsNonNegative z → list_all p (repeated z) ≡ all_pass p z
+list_all-repeated = nonnegative.list_all-repeated row_cmp row_cmp-total row_cmp-antisymmetric

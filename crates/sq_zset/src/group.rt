@@ -49,12 +49,15 @@ pub trait Group: Drop + Sized {
 
     /// The laws of an abelian group.
     ghost laws: { IsAbelian addition };
+
+    /// Zero lies in the range, also where no code asks for it.
+    ghost zero_in_range: { first_outside addition.zero ≡ None };
 }
 
 impl Group for i64 {
     ghost use Rattle.std.specs.Prelude.{◌+ℤ◌, neg_ℤ, Ok, IfErr, OnErr};
     ghost use Rattle.sq_algebra.specs.Groups.{integers};
-    ghost use Rattle.sq_zset.specs.GroupLaws.{integers_are_abelian};
+    ghost use Rattle.sq_zset.specs.GroupLaws.{integers_are_abelian, zero_is_in_range};
     ghost use Rattle.sq_zset.specs.Range.{number_outside};
 
     ghost addition = { integers };
@@ -97,4 +100,6 @@ impl Group for i64 {
     }
 
     ghost laws = { integers_are_abelian };
+
+    ghost zero_in_range = { zero_is_in_range };
 }

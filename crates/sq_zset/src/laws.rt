@@ -1,16 +1,18 @@
 //! Laws of Z-sets of rows, each as the contract of a function that does nothing.
-ghost use Rattle.std.specs.Prelude.{◌≡◌, ◌≤◌, ◌+◌, ◌*◌, ℤ, List, ◌++◌, length, Bool, pos, neg_ℤ, ◌+ℤ◌, ◌-ℤ◌, map, if◌then◌else◌};
-ghost use Rattle.std.specs.List.{filter, flat_map};
+ghost use Rattle.std.specs.Prelude.{◌≡◌, ◌↔◌, ◌≤◌, unsigned_abs, ◌+◌, ◌*◌, ◌^◌, ℤ, List, ◌++◌, length, Bool, pos, neg_ℤ, ◌+ℤ◌, ◌-ℤ◌, map, if◌then◌else◌};
+ghost use Rattle.std.specs.List.{filter, flat_map, list_all};
 ghost use Rattle.std.specs.Ordering.{is_eq};
 ghost use Rattle.sq_value.specs.declared.value.Value.{Value as Datum};
 ghost use Rattle.sq_value.specs.Order.{row_cmp};
 ghost use Rattle.sq_algebra.specs.Groups.{IsAbelian, IsAdditive, z_sets};
 ghost use Rattle.sq_algebra.specs.Keyed.{at_key};
 ghost use Rattle.sq_algebra.specs.Listed.{count, changed, first_of_each, among, without};
-ghost use Rattle.sq_algebra.specs.Operators.{IsNonNegative, image, keep, distinct, product, meet};
+ghost use Rattle.sq_algebra.specs.Operators.{IsNonNegative, image, keep, distinct, product, meet, repeated};
+ghost use Rattle.sq_algebra.specs.Passing.{all_pass};
 ghost use Rattle.sq_algebra.specs.ZSet.{ZSet as Weighted, entries, from_pairs, zero, single, of_list, weight, total, plus, negate, minus};
 ghost use Rattle.sq_zset.specs.Collecting.{mass_of};
 ghost use Rattle.sq_zset.specs.Loops.{GivesAtMostOne, nested_loops};
+ghost use Rattle.sq_zset.specs.Range.{IsInRange};
 
 use crate::{Group, OutsideRange, Pair, ZFault, ZSet};
 use sq_algebra::changes_are_differences;
@@ -48,10 +50,19 @@ pub fn rows_have_totals()
     ensures list { (rows : List (List Datum)) → total (of_list row_cmp rows) ≡ pos (length rows) }
 {}
 
+/// A Z-set of rows without a weight below 0 is that of a list of rows: of its rows, each as often as its weight says. Its
+/// total is the length of this list, and all members of this list pass a test exactly if all its rows do.
+pub fn nonnegative_rows_are_lists()
+    ensures repeated { (z : Weighted (List Datum) row_cmp) → IsNonNegative z → of_list row_cmp (repeated z) ≡ z }
+    ensures total { (z : Weighted (List Datum) row_cmp) → IsNonNegative z → total z ≡ pos (length (repeated z)) }
+    ensures test { (p : List Datum → Bool) (z : Weighted (List Datum) row_cmp) → IsNonNegative z → list_all p (repeated z) ≡ all_pass p z }
+{}
+
 /// The mass of a Z-set is the sum of its absolute weights. If no weight is negative, it is the total. That of a sum or a
 /// difference is at most the sum of both, and that of a negation, of the rows that pass a test, or of images, at most one
 /// for each row, at most the whole. That of a product with at most one row for each pair is at most the product of both.
-/// Equal rows of a list of pairs may cancel: `|Σ n k| ≤ Σ |n|`, `|y + z| ≤ |y| + |z|`, `|y × z| ≤ |y| |z|`.
+/// Equal rows of a list of pairs may cancel: `|Σ n k| ≤ Σ |n|`, `|y + z| ≤ |y| + |z|`, `|y × z| ≤ |y| |z|`. If the mass is at
+/// most 2^62, each weight lies in its range.
 pub fn masses_of_rows()
     ensures total { (z : Weighted (List Datum) row_cmp) → IsNonNegative z → pos (mass_of (entries z)) ≡ total z }
     ensures sum { (y z : Weighted (List Datum) row_cmp) → mass_of (entries (plus y z)) ≤ mass_of (entries y) + mass_of (entries z) }
@@ -62,6 +73,12 @@ pub fn masses_of_rows()
     ensures image { (f : List Datum → List (List Datum)) → ((row : List Datum) → length (f row) ≤ 1) → (z : Weighted (List Datum) row_cmp) → mass_of (entries (image row_cmp f z)) ≤ mass_of (entries z) }
     ensures product { (f : List Datum → List Datum → List (List Datum)) → GivesAtMostOne f
         → (y z : Weighted (List Datum) row_cmp) → mass_of (entries (product row_cmp f y z)) ≤ mass_of (entries y) * mass_of (entries z) }
+    ensures in_range { (z : Weighted (List Datum) row_cmp) → mass_of (entries z) ≤ 2 ^ 62 → IsInRange z }
+{}
+
+/// All weights of a Z-set lie in their range exactly if that of each row does.
+pub fn ranges_by_weights()
+    ensures { (z : Weighted (List Datum) row_cmp) → IsInRange z ↔ ((row : List Datum) → unsigned_abs (weight row z) ≤ 2 ^ 62) }
 {}
 
 /// Images of rows, the rows that pass a test, the rows with a key, and products, in each of their sides, are additive.

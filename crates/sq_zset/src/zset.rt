@@ -177,7 +177,7 @@ impl ZSet {
 impl Group for ZSet {
     ghost use Rattle.sq_algebra.specs.Groups.{z_sets};
     ghost use Rattle.sq_value.specs.Order.{row_cmp};
-    ghost use Rattle.sq_zset.specs.GroupLaws.{rows_are_abelian};
+    ghost use Rattle.sq_zset.specs.GroupLaws.{no_rows_are_in_range, rows_are_abelian};
     ghost use Rattle.sq_zset.specs.Range.{first_outside as first_weight_outside};
 
     ghost addition = { z_sets row_cmp };
@@ -209,4 +209,6 @@ impl Group for ZSet {
     }
 
     ghost laws = { rows_are_abelian };
+
+    ghost zero_in_range = { no_rows_are_in_range };
 }

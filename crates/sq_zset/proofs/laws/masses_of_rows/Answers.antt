@@ -1,4 +1,4 @@
-use Rattle.sq_zset.proofs.Masses.{mass-from_pairs, mass-image, mass-keep, mass-minus, mass-negate, mass-plus, mass-product, mass-total}
+use Rattle.sq_zset.proofs.Masses.{mass-from_pairs, mass-image, mass-in_range, mass-keep, mass-minus, mass-negate, mass-plus, mass-product, mass-total}
 use Rattle.sq_zset.proofs.laws.masses_of_rows.Goals as goal
 
 pub returns-clause-total : goal.returns-clause-total
@@ -24,3 +24,6 @@ returns-clause-image c = mass-image
 
 pub returns-clause-product : goal.returns-clause-product
 returns-clause-product c = mass-product
+
+pub returns-clause-in_range : goal.returns-clause-in_range
+returns-clause-in_range c = mass-in_range

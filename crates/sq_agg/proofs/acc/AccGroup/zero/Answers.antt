@@ -1,7 +1,6 @@
 use Rattle.std.proofs.Common.{[], pos, refl, ◌∙◌, ap}
-use Rattle.std.specs.Ordering.{nat_cmp}
-use Rattle.sq_algebra.specs.ZSet.{entries-zero}
-use Rattle.sq_agg.specs.Accumulators.{accumulator, first_number_in, first_number_outside}
+use Rattle.sq_agg.specs.Accumulators.{accumulator, first_number_outside}
+use Rattle.sq_agg.specs.GroupLaws.{nothing_is_in_range}
 use Rattle.sq_agg.proofs.Bounding.{zero_where}
 use Rattle.sq_agg.proofs.acc.AccGroup.zero.Goals as goal
 
@@ -9,4 +8,4 @@ pub returns-clause-zero : goal.returns-clause-zero
 returns-clause-zero c = ap (accumulator (pos 0)) c.new.ensures.items ∙ (zero_where (pos 0) []).0 refl
 
 pub returns-clause-in_range : goal.returns-clause-in_range
-returns-clause-in_range c = ap first_number_outside (ap (accumulator (pos 0)) c.new.ensures.items ∙ (zero_where (pos 0) []).0 refl) ∙ ap first_number_in (entries-zero nat_cmp)
+returns-clause-in_range c = ap first_number_outside (returns-clause-zero c) ∙ nothing_is_in_range

@@ -3,7 +3,7 @@ use Rattle.sq_algebra.specs.ZSet.{entries}
 use Rattle.sq_zset.specs.Range.{first_outside}
 use Rattle.sq_ops.specs.Aggregates.{group_row}
 use Rattle.sq_ops.specs.Wholes.{has_no_values}
-use Rattle.sq_zset.proofs.Counting.{none_in_range}
+use Rattle.sq_zset.specs.GroupLaws.{no_rows_are_in_range}
 use Rattle.sq_ops.proofs.Grouping.{none_tested, nothing_shown}
 use Rattle.sq_ops.proofs.aggregate.AggSpecWhole.part.Goals as goal
 
@@ -13,7 +13,7 @@ returns-then-is_nothing-clause-ok c =
     c.empty.ensures ∙ sym (nothing_shown _ (group_row c.args.self.now.calls c.args.key.now c.args.z.now) nothing)
 
 pub returns-then-is_nothing-clause-in_range : goal.returns-then-is_nothing-clause-in_range
-returns-then-is_nothing-clause-in_range c = ap first_outside c.empty.ensures ∙ none_in_range
+returns-then-is_nothing-clause-in_range c = ap first_outside c.empty.ensures ∙ no_rows_are_in_range
 
 pub returns-then-is_nothing-clause-all_sums : goal.returns-then-is_nothing-clause-all_sums
 returns-then-is_nothing-clause-all_sums c =

@@ -4,11 +4,11 @@ use Rattle.sq_algebra.specs.ZSet.{of_list, single, weight, zero}
 use Rattle.sq_algebra.proofs.OperatorLemmas.{of_list-one}
 use Rattle.sq_value.specs.Order.{row_cmp}
 use Rattle.sq_zset.specs.Range.{first_outside}
-use Rattle.sq_zset.proofs.Counting.{none_in_range}
+use Rattle.sq_zset.specs.GroupLaws.{no_rows_are_in_range}
 use Rattle.sq_ops.proofs.whole.DistinctWhole.part.Goals as goal
 
 pub returns-then-weight_of-le0-clause-in_range : goal.returns-then-weight_of-le0-clause-in_range
-returns-then-weight_of-le0-clause-in_range c = ap first_outside c.empty.ensures ∙ none_in_range
+returns-then-weight_of-le0-clause-in_range c = ap first_outside c.empty.ensures ∙ no_rows_are_in_range
 
 pub returns-clause-ok : goal.returns-clause-ok
 returns-clause-ok c =

@@ -28,7 +28,7 @@ use Rattle.sq_expr.specs.Meaning.{column_of, columns_of, is_null, negative, num,
 use Rattle.sq_expr.specs.Typing.{IsOfSort, are_alike, is_numeric, sort_of, sort_of_kind}
 use Rattle.sq_expr.proofs.Equations.{num-Column, num-Neg, num-Number, num-Product, num-Sum, num-Text, sort_of-Column, sort_of-Text}
 use Rattle.sq_expr.proofs.Lists.{all_append, all_flattened, all_weaker}
-use Rattle.sq_typed.specs.declared.query.Block.{out-Block}
+use Rattle.sq_typed.specs.declared.query.Block.{Block, out-Block}
 use Rattle.sq_typed.specs.declared.query.BlockCall.{BlockCall}
 use Rattle.sq_typed.specs.declared.query.FromItem.{FromItem}
 use Rattle.sq_typed.specs.declared.query.FromJoin.{FromJoin}
@@ -40,7 +40,7 @@ use Rattle.sq_typed.specs.declared.query.Query.{Query}
 use Rattle.sq_typed.specs.declared.query.Query.TheVariants as query
 use Rattle.sq_typed.specs.declared.query.SetStep.{SetStep}
 use Rattle.sq_typed.specs.Blocks.{arguments, block_answer, call_value, group_row, groups, item_rows, present, selected, sum_or_null, without_repeats}
-use Rattle.sq_typed.specs.Fit.{Fits, Kinded, KindedSource, Pairwise, are_matched, block_kinded, clauses_fit, grouped_kinds, has_some, item_row_kinds, joined_kinds, kinded, kinded_origin, kinded_source, kinds_given, on_suits, operation_kinded, relation_kinded, sources_fit, wider_kinds}
+use Rattle.sq_typed.specs.Fit.{Fits, Kinded, KindedSource, Pairwise, are_matched, block_kinded, clauses_fit, grouped_kinds, has_some, item_row_kinds, joined_kinds, kinded, kinded_origin, kinded_source, kinds_given, on_suits, operation_kinded, relation_kinded, source_kinds, sources_fit, wider_kinds}
 use Rattle.sq_typed.specs.From.{Row, Answer, Source, all_hold, from, inner, joined_by, kept, matches, members_of, or_padded}
 use Rattle.sq_typed.specs.Laws.{HasItsWidth, width_of_all}
 use Rattle.sq_typed.specs.Numbered.{call_kind, kind_of, kind_step}
@@ -49,11 +49,13 @@ use Rattle.sq_typed.specs.Resolved.{wider}
 use Rattle.sq_typed.proofs.AnswerLemmas.{all_first}
 use Rattle.sq_typed.proofs.Equations.{answer-Block, answer-Chain, answer-Intersect, member-is, origin-Query, origin-Relation, source-is}
 use Rattle.sq_typed.proofs.FitEquations.{kinded-Block, kinded-Chain, kinded-Intersect, kinded-Query, kinded-Relation, kinded_source-is}
-use Rattle.sq_typed.proofs.FitQueries.{length_widest, operands_fit, pairwise_mapped}
+use Rattle.sq_typed.proofs.FitQueries.{length_widest, operands_fit}
+use Rattle.sq_typed.proofs.GivenRows.{GoodParts, GoodSource, IsNumber, SourceGives, all_widths, greatest_of, its_width, least_of, number_folded, number_negative, number_sum, once_of, query_good, relation_gives, sources_good, sources_widths, where_of}
 use Rattle.sq_typed.proofs.FitRows.{length_mapped}
+use Rattle.sq_typed.proofs.FitTests.{sources_suit}
 use Rattle.sq_typed.proofs.Tests.{all_filter, and_left, and_right, every}
 use Rattle.sq_typed.proofs.Trees.{QueryCases, each_origin, each_query}
-use Rattle.sq_bridge.specs.Sorts.{AreAllOfSorts, AreOfSorts, GivesSorts, HoldsSorts}
+use Rattle.sq_typed.specs.Sorts.{AreAllOfSorts, AreOfSorts, GivesSorts, HoldsSorts}
 
 -- ---- rows
 
@@ -97,25 +99,6 @@ column_sort (x ∷ row) (k ∷ kinds) (suc n) h = column_sort row kinds n h.1
 
 -- ---- values of expressions
 
-abbrev IsNumber : Value → Type 0
-IsNumber x = IsOfSort Numeric x
-
-number_of_both : (f : ℤ → ℤ → ℤ) (x y : Value) → IsNumber (of_both f x y)
-number_of_both f (Int x) (Int y) = tt
-number_of_both f (Int x) Null = tt
-number_of_both f (Int x) (Text t) = tt
-number_of_both f Null y = tt
-number_of_both f (Text t) y = tt
-
-number_folded : (f : ℤ → ℤ → ℤ) (x : Value) (xs : List Value) → IsNumber x → IsNumber (fold (of_both f) x xs)
-number_folded f x [] h = h
-number_folded f x (y ∷ ys) h = number_folded f (of_both f x y) ys (number_of_both f x y)
-
-number_negative : (x : Value) → IsNumber (negative x)
-number_negative Null = tt
-number_negative (Int x) = tt
-number_negative (Text t) = tt
-
 module _ (kinds : List Kind) (row : Row) (h : AreOfSorts row kinds) where
   abbrev OfItsSort : Expr → Kind → Type 0
   OfItsSort e k = IsOfSort (sort_of_kind k) (num e row)
@@ -158,70 +141,7 @@ pub numbers_are : (kinds : List Kind) (e : Expr) → is_numeric (sort_of kinds e
 numbers_are kinds e t row h =
     subst (λ s. IsOfSort s (num e row)) (numeric_kind kinds e t) (value_sort kinds row h e)
 
--- ---- FROM
-
-module _ (before kinds : List Kind) where
-  abbrev Joined : Row → Type 0
-  Joined row = AreOfSorts row (before ++ kinds)
-
-  behind_row : (row : Row) → AreOfSorts row before → (others : List Row) → AreAllOfSorts others kinds → AllByRecursion Joined (map (λ other. row ++ other) others)
-  behind_row row h [] k = tt
-  behind_row row h (other ∷ others) k = (sorts_joined row other before kinds h k.0, behind_row row h others k.1)
-
-  matches_sorts : (conds : List Cond) (row : Row) → AreOfSorts row before → (others : List Row) → AreAllOfSorts others kinds → AllByRecursion Joined (matches conds others row)
-  matches_sorts conds row h others k = all_filter Joined (all_hold conds) (map (λ other. row ++ other) others) (behind_row row h others k)
-
-  padded_sorts : (width : ℕ) (row : Row) → width ≡ length kinds → AreOfSorts row before → (rows : List Row) → AllByRecursion Joined rows → AllByRecursion Joined (or_padded width row rows)
-  padded_sorts width row w h [] k = (sorts_joined row (replicate width Null) before kinds h (subst (λ n. AreOfSorts (replicate n Null) kinds) (sym w) (sorts_of_nulls kinds)), tt)
-  padded_sorts width row w h (r ∷ rs) k = k
-
-  inner_sorts : (conds : List Cond) (others rows : List Row) → AreAllOfSorts rows before → AreAllOfSorts others kinds → AllByRecursion Joined (inner conds others rows)
-  inner_sorts conds others rows h k = all_flattened Joined (matches conds others) rows (all_weaker (λ row. AreOfSorts row before) (λ row. AllByRecursion Joined (matches conds others row)) rows (λ row r. matches_sorts conds row r others k) h)
-
-  joined_sorts : (join : FromJoin) (a : Answer) (rows : List Row) → AreAllOfSorts rows before → GivesSorts a kinds → AllByRecursion Joined (joined_by [] join a rows)
-  joined_sorts Comma a rows h k = inner_sorts [] a.rows rows h k.1
-  joined_sorts (Inner on) a rows h k = inner_sorts (on ∷ []) a.rows rows h k.1
-  joined_sorts (Left on) a rows h k =
-      all_flattened Joined (λ row. or_padded a.width row (matches (on ∷ []) a.rows row)) rows
-      (all_weaker (λ row. AreOfSorts row before) (λ row. AllByRecursion Joined (or_padded a.width row (matches (on ∷ []) a.rows row))) rows
-      (λ row r. padded_sorts a.width row k.0 r (matches (on ∷ []) a.rows row) (matches_sorts (on ∷ []) row r a.rows k.1)) h)
-
-abbrev pub SourceGives : Source → KindedSource → Type 0
-SourceGives s k = GivesSorts s.answer k.kinded.kinds
-
-from_sorts : (before : List Kind) (rows : List Row) (ss : List Source) (ks : List KindedSource) → AreAllOfSorts rows before → Pairwise SourceGives ss ks →
-    AreAllOfSorts (fold (λ rows s. joined_by [] s.join s.answer rows) rows ss) (before ++ joined_kinds ks)
-from_sorts before rows [] [] h p = subst (AreAllOfSorts rows) (sym (append-nil before)) h
-from_sorts before rows [] (k ∷ ks) h p = absurd p
-from_sorts before rows (s ∷ ss) [] h p = absurd p
-from_sorts before rows (s ∷ ss) (k ∷ ks) h p =
-    subst (AreAllOfSorts (fold (λ rows s. joined_by [] s.join s.answer rows) (joined_by [] s.join s.answer rows) ss)) (append_assoc before k.kinded.kinds (joined_kinds ks))
-    (from_sorts (before ++ k.kinded.kinds) (joined_by [] s.join s.answer rows) ss ks (joined_sorts before k.kinded.kinds s.join s.answer rows h p.0) p.1)
-
-pub kept_sorts : (conds : List Cond) (ss : List Source) (ks : List KindedSource) → Pairwise SourceGives ss ks → AreAllOfSorts (kept conds ss) (joined_kinds ks)
-kept_sorts conds ss ks p = all_filter (λ row. AreOfSorts row (joined_kinds ks)) (all_hold conds) (from ss) (from_sorts [] ([] ∷ []) ss ks (tt, tt) p)
-
 -- ---- groups and items
-
-either_sort : (s : Sort) (b : Bool) (x y : Value) → IsOfSort s x → IsOfSort s y → IsOfSort s (cond b x y)
-either_sort s true x y h i = h
-either_sort s false x y h i = i
-
-chosen_sort : (s : Sort) (test : Value → Value → Bool) (a : Value) (xs : List Value) → IsOfSort s a → AllByRecursion (IsOfSort s) xs → IsOfSort s (fold (λ a b. cond (test a b) b a) a xs)
-chosen_sort s test a [] h hs = h
-chosen_sort s test a (x ∷ xs) h hs = chosen_sort s test (cond (test a x) x a) xs (either_sort s (test a x) x a hs.0 h) hs.1
-
-least_sort : (s : Sort) (xs : List Value) → AllByRecursion (IsOfSort s) xs → IsOfSort s (least_or_null xs)
-least_sort s [] h = tt
-least_sort s (x ∷ xs) h = chosen_sort s (λ a b. is_lt (value_cmp b a)) x xs h.0 h.1
-
-greatest_sort : (s : Sort) (xs : List Value) → AllByRecursion (IsOfSort s) xs → IsOfSort s (greatest_or_null xs)
-greatest_sort s [] h = tt
-greatest_sort s (x ∷ xs) h = chosen_sort s (λ a b. is_lt (value_cmp a b)) x xs h.0 h.1
-
-sum_sort : (xs : List Value) → IsNumber (sum_or_null xs)
-sum_sort [] = tt
-sum_sort (x ∷ xs) = number_folded ◌+ℤ◌ (Int (pos 0)) (x ∷ xs) tt
 
 values_sort : (kinds : List Kind) (e : Expr) (rows : List Row) → AreAllOfSorts rows kinds → AllByRecursion (IsOfSort (sort_of_kind (kind_of kinds e))) (map (num e) rows)
 values_sort kinds e [] h = tt
@@ -230,11 +150,11 @@ values_sort kinds e (row ∷ rows) h = (value_sort kinds row h.0 e, values_sort 
 call_sort : (kinds : List Kind) (f : Func) (arg : Option Expr) (rows : List Row) → AreAllOfSorts rows kinds → IsOfSort (sort_of_kind (call_kind kinds f arg)) (call_value f arg rows)
 call_sort kinds CountAll arg rows h = tt
 call_sort kinds Count arg rows h = tt
-call_sort kinds Sum arg rows h = sum_sort (present (arguments arg rows))
+call_sort kinds Sum arg rows h = number_sum (present (arguments arg rows))
 call_sort kinds Min None rows h = tt
-call_sort kinds Min (Some e) rows h = least_sort (sort_of_kind (kind_of kinds e)) (present (map (num e) rows)) (all_filter (IsOfSort (sort_of_kind (kind_of kinds e))) (λ x. not (is_null x)) (map (num e) rows) (values_sort kinds e rows h))
+call_sort kinds Min (Some e) rows h = least_of (IsOfSort (sort_of_kind (kind_of kinds e))) tt (present (map (num e) rows)) (all_filter (IsOfSort (sort_of_kind (kind_of kinds e))) (λ x. not (is_null x)) (map (num e) rows) (values_sort kinds e rows h))
 call_sort kinds Max None rows h = tt
-call_sort kinds Max (Some e) rows h = greatest_sort (sort_of_kind (kind_of kinds e)) (present (map (num e) rows)) (all_filter (IsOfSort (sort_of_kind (kind_of kinds e))) (λ x. not (is_null x)) (map (num e) rows) (values_sort kinds e rows h))
+call_sort kinds Max (Some e) rows h = greatest_of (IsOfSort (sort_of_kind (kind_of kinds e))) tt (present (map (num e) rows)) (all_filter (IsOfSort (sort_of_kind (kind_of kinds e))) (λ x. not (is_null x)) (map (num e) rows) (values_sort kinds e rows h))
 
 calls_sorts : (kinds : List Kind) (calls : List BlockCall) (rows : List Row) → AreAllOfSorts rows kinds → AreOfSorts (map (λ c. call_value c.func c.arg rows) calls) (map (λ c. call_kind kinds c.func c.arg) calls)
 calls_sorts kinds [] rows h = tt
@@ -275,19 +195,15 @@ selected_sorts : (kinds : List Kind) (items : List Expr) (rows : List Row) → A
 selected_sorts kinds items [] h = tt
 selected_sorts kinds items (row ∷ rows) h = (item_sorts kinds row h.0 items, selected_sorts kinds items rows h.1)
 
-once_sorts : (is_distinct : Bool) (kinds : List Kind) (rows : List Row) → AreAllOfSorts rows kinds → AreAllOfSorts (without_repeats is_distinct rows) kinds
-once_sorts true kinds rows h = all_first (λ row. AreOfSorts row kinds) rows h
-once_sorts false kinds rows h = h
-
 -- ---- what has to hold of an answer
 
 abbrev Good : Answer → Kinded → Type 0
 Good a k = k.fits ≡ true → GivesSorts a k.kinds
 
-abbrev GoodSource : Source → KindedSource → Type 0
-GoodSource s k = Good s.answer k.kinded
+abbrev pub SourceGivesSorts : Source → KindedSource → Type 0
+SourceGivesSorts s k = SourceGives AreOfSorts s k
 
-pub sources_give : (before : List Kind) (ss : List Source) (ks : List KindedSource) → Pairwise GoodSource ss ks → sources_fit before ks ≡ true → Pairwise SourceGives ss ks
+pub sources_give : (before : List Kind) (ss : List Source) (ks : List KindedSource) → Pairwise (GoodSource Good) ss ks → sources_fit before ks ≡ true → Pairwise SourceGivesSorts ss ks
 sources_give before [] [] p e = tt
 sources_give before [] (k ∷ ks) p e = absurd p
 sources_give before (s ∷ ss) [] p e = absurd p
@@ -297,14 +213,14 @@ sources_give before (s ∷ ss) (k ∷ ks) p e =
       sources_give (before ++ k.kinded.kinds) ss ks p.1 (and_right (k.kinded.fits && on_suits (before ++ k.kinded.kinds) k.join) (sources_fit (before ++ k.kinded.kinds) ks) e),
     )
 
-block_good : (is_distinct : Bool) (ss : List Source) (ks : List KindedSource) (where_ : Option Cond) (grouping : Option Grouping) (items : List Expr) → Pairwise GoodSource ss ks → Good (block_answer is_distinct ss where_ grouping items) (block_kinded ks where_ grouping items)
+block_good : (is_distinct : Bool) (ss : List Source) (ks : List KindedSource) (where_ : Option Cond) (grouping : Option Grouping) (items : List Expr) → Pairwise (GoodSource Good) ss ks → Good (block_answer is_distinct ss where_ grouping items) (block_kinded ks where_ grouping items)
 block_good is_distinct ss ks where_ grouping items p fits =
     let from_part = and_left (has_some ks && sources_fit [] ks) (clauses_fit (joined_kinds ks) where_ grouping items) fits in (
       sym (length_mapped (kind_of (item_row_kinds (joined_kinds ks) grouping)) items),
-      once_sorts is_distinct (map (kind_of (item_row_kinds (joined_kinds ks) grouping)) items) (selected items (item_rows grouping (kept (members_of where_) ss)))
+      once_of AreOfSorts is_distinct (map (kind_of (item_row_kinds (joined_kinds ks) grouping)) items) (selected items (item_rows grouping (kept (members_of where_) ss)))
           (selected_sorts (item_row_kinds (joined_kinds ks) grouping) items (item_rows grouping (kept (members_of where_) ss))
           (item_row_sorts (joined_kinds ks) grouping (kept (members_of where_) ss)
-          (kept_sorts (members_of where_) ss ks (sources_give [] ss ks p (and_right (has_some ks) (sources_fit [] ks) from_part))))),
+          (where_of AreOfSorts sorts_joined sorts_of_nulls (members_of where_) ss ks (sources_give [] ss ks p (and_right (has_some ks) (sources_fit [] ks) from_part))))),
     )
 
 -- ---- set operations
@@ -384,71 +300,42 @@ intersect_good (a ∷ answers) (m ∷ ms) p fits = operation_good (λ rows a. in
 
 -- ---- queries
 
-relation_good : (cs : List Contents) (kss : List (List Kind)) → Pairwise HoldsSorts cs kss → (n : ℕ) → Good (relation_answer (get_or cs n (record { width = 0; rows = [] }))) (relation_kinded (slice_get kss n))
-relation_good [] [] p n fits = absurd (cc fits)
-relation_good [] (ks ∷ kss) p n fits = absurd p
-relation_good (c ∷ cs) [] p n fits = absurd p
-relation_good (c ∷ cs) (ks ∷ kss) p zero fits = p.0
-relation_good (c ∷ cs) (ks ∷ kss) p (suc n) fits = relation_good cs kss p.1 n fits
-
 module _ (relations : List Contents) (kss : List (List Kind)) (holds : Pairwise HoldsSorts relations kss) where
-  abbrev OriginGood : Origin → Type 0
-  OriginGood o = Good (origin_answer relations o) (kinded_origin kss o)
-
-  abbrev QueryGood : Query → Type 0
-  QueryGood q = Good (answer relations q) (kinded kss q)
-
-  good_at : (a b : Answer) (k m : Kinded) → a ≡ b → k ≡ m → Good b m → Good a k
-  good_at a b k m ea ek g = subst (λ a. Good a k) (sym ea) (subst (Good b) (sym ek) g)
-
-  good_source : (s : FromItem) → OriginGood s.source → GoodSource (source_of_item relations s) (kinded_source kss s)
-  good_source s g = good_at (source_of_item relations s).answer (origin_answer relations s.source) (kinded_source kss s).kinded (kinded_origin kss s.source) (ap (λ s. s.answer) (source-is relations s)) (ap (λ k. k.kinded) (kinded_source-is kss s)) g
-
-  good_member : (s : SetStep) → QueryGood s.query → Good (member_answer relations s).1 (kinded kss s.query)
-  good_member s g = subst (λ m. Good m.1 (kinded kss s.query)) (sym (member-is relations s)) g
-
-  good_cases : QueryCases OriginGood QueryGood
-  good_cases = record {
-    block = λ b gs. good_at (answer relations (query.Block b)) (block_answer (out-Block b).distinct (map (source_of_item relations) (out-Block b).sources) (out-Block b).filter (out-Block b).grouping (out-Block b).items)
-        (kinded kss (query.Block b)) (block_kinded (map (kinded_source kss) (out-Block b).sources) (out-Block b).filter (out-Block b).grouping (out-Block b).items) (answer-Block relations b) (kinded-Block kss b)
-        (block_good (out-Block b).distinct (map (source_of_item relations) (out-Block b).sources) (map (kinded_source kss) (out-Block b).sources) (out-Block b).filter (out-Block b).grouping (out-Block b).items
-        (pairwise_mapped GoodSource (source_of_item relations) (kinded_source kss) (out-Block b).sources
-        (all_weaker (λ s. OriginGood s.source) (λ s. GoodSource (source_of_item relations s) (kinded_source kss s)) (out-Block b).sources good_source gs)));
-    chain = λ q rest g gs. good_at (answer relations (query.Chain q rest)) (chain_answer (λ rows s. set_rows s.0 rows s.1.rows) (λ s. s.1) (answer relations q) (map (member_answer relations) rest))
-        (kinded kss (query.Chain q rest)) (operation_kinded (kinded kss q ∷ map (λ s. kinded kss s.query) rest)) (answer-Chain relations q rest) (kinded-Chain kss q rest)
-        (chain_good (answer relations q) (kinded kss q) (map (member_answer relations) rest) (map (λ s. kinded kss s.query) rest) g
-        (pairwise_mapped (λ s m. Good s.1 m) (member_answer relations) (λ s. kinded kss s.query) rest
-        (all_weaker (λ s. QueryGood s.query) (λ s. Good (member_answer relations s).1 (kinded kss s.query)) rest good_member gs)));
-    intersect = λ qs gs. good_at (answer relations (query.Intersect qs)) (intersect_answer (map (answer relations) qs)) (kinded kss (query.Intersect qs)) (operation_kinded (map (kinded kss) qs))
-        (answer-Intersect relations qs) (kinded-Intersect kss qs) (intersect_good (map (answer relations) qs) (map (kinded kss) qs) (pairwise_mapped Good (answer relations) (kinded kss) qs gs));
-    relation = λ n. good_at (origin_answer relations (origin.Relation n)) (relation_answer (get_or relations n (record { width = 0; rows = [] }))) (kinded_origin kss (origin.Relation n)) (relation_kinded (slice_get kss n))
-        (origin-Relation relations n) (kinded-Relation kss n) (relation_good relations kss holds n);
-    of_query = λ q g. good_at (origin_answer relations (origin.Query q)) (answer relations q) (kinded_origin kss (origin.Query q)) (kinded kss q) (origin-Query relations q) (kinded-Query kss q) g;
+  good_parts : GoodParts Good relations kss
+  good_parts = record {
+    block = block_good;
+    chain = chain_good;
+    intersect = intersect_good;
+    relation = relation_gives AreOfSorts relations kss holds;
   }
 
-  pub origin_sorts : (o : Origin) → (kinded_origin kss o).fits ≡ true → GivesSorts (origin_answer relations o) (kinded_origin kss o).kinds
-  origin_sorts o fits = each_origin OriginGood QueryGood good_cases o fits
-
   pub query_sorts : (q : Query) → Fits kss q → GivesSorts (answer relations q) (kinds_given kss q)
-  query_sorts q fits = each_query OriginGood QueryGood good_cases q fits
+  query_sorts q fits = query_good Good relations kss good_parts q fits
 
-  pub sources_sorts : (xs : List FromItem) → sources_fit [] (map (kinded_source kss) xs) ≡ true → Pairwise SourceGives (map (source_of_item relations) xs) (map (kinded_source kss) xs)
-  sources_sorts xs fits = sources_give [] (map (source_of_item relations) xs) (map (kinded_source kss) xs)
-      (pairwise_mapped GoodSource (source_of_item relations) (kinded_source kss) xs (every (λ s. GoodSource (source_of_item relations s) (kinded_source kss s)) xs (λ s. good_source s (origin_sorts s.source)))) fits
+  pub sources_sorts : (xs : List FromItem) → sources_fit [] (map (kinded_source kss) xs) ≡ true → Pairwise SourceGivesSorts (map (source_of_item relations) xs) (map (kinded_source kss) xs)
+  sources_sorts xs fits = sources_give [] (map (source_of_item relations) xs) (map (kinded_source kss) xs) (sources_good Good relations kss good_parts xs) fits
 
--- ---- widths
+-- ---- of a block's sources
+
+pub kept_sorts : (conds : List Cond) (ss : List Source) (ks : List KindedSource) → Pairwise SourceGivesSorts ss ks → AreAllOfSorts (kept conds ss) (joined_kinds ks)
+kept_sorts conds ss ks p = where_of AreOfSorts sorts_joined sorts_of_nulls conds ss ks p
 
 pub sorts_width : (a : Answer) (kinds : List Kind) → GivesSorts a kinds → HasItsWidth a
-sorts_width a kinds h = all_weaker (λ row. AreOfSorts row kinds) (λ row. length row ≡ a.width) a.rows (λ row r. length_of_sorts row kinds r ∙ sym h.0) h.1
+sorts_width a kinds h = its_width AreOfSorts length_of_sorts a kinds h
 
-pub sources_widths : (ss : List Source) (ks : List KindedSource) → Pairwise SourceGives ss ks → AllByRecursion (λ s. HasItsWidth s.answer) ss
-sources_widths [] [] p = tt
-sources_widths [] (k ∷ ks) p = absurd p
-sources_widths (s ∷ ss) [] p = absurd p
-sources_widths (s ∷ ss) (k ∷ ks) p = (sorts_width s.answer k.kinded.kinds p.0, sources_widths ss ks p.1)
+pub source_widths : (ss : List Source) (ks : List KindedSource) → Pairwise SourceGivesSorts ss ks → AllByRecursion (λ s. HasItsWidth s.answer) ss
+source_widths ss ks p = sources_widths AreOfSorts length_of_sorts ss ks p
 
-pub all_widths : (ss : List Source) (ks : List KindedSource) → Pairwise SourceGives ss ks → width_of_all ss ≡ length (joined_kinds ks)
-all_widths [] [] p = refl
-all_widths [] (k ∷ ks) p = absurd p
-all_widths (s ∷ ss) [] p = absurd p
-all_widths (s ∷ ss) (k ∷ ks) p = omega (arith, p.0.0, all_widths ss ks p.1, length-append k.kinded.kinds (joined_kinds ks))
+pub width_of_sources : (ss : List Source) (ks : List KindedSource) → Pairwise SourceGivesSorts ss ks → width_of_all ss ≡ length (joined_kinds ks)
+width_of_sources ss ks p = all_widths AreOfSorts ss ks p
+
+-- over relations whose rows are of their sorts, in a block that fits
+module _ (relations : List Contents) (kss : List (List Kind)) (holds : Pairwise HoldsSorts relations kss) (b : Block) (fits : Fits kss (query.Block b)) where
+  given : Pairwise SourceGivesSorts (map (source_of_item relations) (out-Block b).sources) (map (kinded_source kss) (out-Block b).sources)
+  given = sources_sorts relations kss holds (out-Block b).sources (sources_suit kss b fits)
+
+  pub block_source_widths : AllByRecursion (λ s. HasItsWidth s.answer) (map (source_of_item relations) (out-Block b).sources)
+  block_source_widths = source_widths (map (source_of_item relations) (out-Block b).sources) (map (kinded_source kss) (out-Block b).sources) given
+
+  pub block_width : width_of_all (map (source_of_item relations) (out-Block b).sources) ≡ length (source_kinds kss b)
+  block_width = width_of_sources (map (source_of_item relations) (out-Block b).sources) (map (kinded_source kss) (out-Block b).sources) given
