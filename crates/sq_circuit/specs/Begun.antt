@@ -1,9 +1,10 @@
 -- A circuit in the making: its tables, then nodes one by one, for one view after the other, and at last the views.
 --     AreTables c             tables alone, in order
+--     ReadsThese c p          the part p reads nodes of c alone, so it may stand behind c
 --     made_of c tables p      what a part behind c is worth.      is_faulty c tables p, is_fine c tables p     whether it has a fault, and is sound
 --     IsBegun views now c     tables, and nodes of a circuit of so many views, none of which belongs to a view behind `now`
 --     IsNext views now c p    the part p is a node for the view `now`, and may be appended
---     IsEnded views now c vs  such parts, and as many views in order, each of a node of c
+--     IsEnded views now c vs  such parts, and as many views in order, each of a node of c (IsViewOf c v p)
 --     IsGrown c d             d is c with more nodes behind, none of them a table
 use Rattle.std.specs.Prelude.{◌≡◌, ◌+◌, ◌<◌, ◌≤◌, ℕ, Bool, true, false, not, ◌&&◌, List, ◌++◌, length, slice_get, Some, None}
 use Rattle.sq_circuit.specs.Circuits.{are_sound, fault_of, kinds_at, owner_at, value_of, whole_from}

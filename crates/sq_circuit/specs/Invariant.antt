@@ -1,6 +1,7 @@
 -- What the type of circuits keeps. A circuit is the list of its parts.
 --     IsGood c tables         tables for the circuit: of their kinds, without negative weights, and with totals of at most 2^61
 --     IsPart c i p            the part p may stand at i: it reads earlier nodes, stands in order, takes what it reads, and has its owner
+--     IsPartOf nodes views c i p      it may stand there in a circuit of so many nodes and views that begins with the parts c
 --     IsBounded c i p z       the rows z of a sound node are of its kinds, and their weights are bounded
 --     AreEarlier c            each node reads earlier nodes alone
 --     table_and_view kinds    the circuit of a table and a view of it
