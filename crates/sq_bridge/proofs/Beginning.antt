@@ -17,7 +17,7 @@ use Rattle.sq_ast.specs.declared.query.StepTree.{StepTree}
 use Rattle.sq_ast.specs.declared.statement.Body.{Body}
 use Rattle.sq_ast.specs.declared.statement.Statement.{Statement}
 use Rattle.sq_catalog.specs.declared.relation.Relation.{Relation}
-use Rattle.sq_expr.proofs.Lists.{all_append, all_at, all_weaker}
+use Rattle.sq_expr.proofs.Lists.{all_append, all_at, all_pass, all_passed, all_weaker}
 use Rattle.sq_typed.specs.declared.query.Block.{Block, out-Block, roll-Block, out-roll-Block}
 use Rattle.sq_typed.specs.declared.query.FromItem.{FromItem, out-roll-FromItem}
 use Rattle.sq_typed.specs.declared.query.Origin.{Origin, roll-Origin}
@@ -89,14 +89,6 @@ starts-Intersect qs = ap starts (sym (query.rolls-Intersect qs)) ∙ query_rolls
 
 -- ---- what passes the test begins so
 
-each_passes : {A B : Type 0} (p : B → Bool) (f : A → B) (xs : List A) → list_all p (map f xs) ≡ true → AllByRecursion (λ x. p (f x) ≡ true) xs
-each_passes p f [] e = tt
-each_passes p f (x ∷ xs) e = (and_left (p (f x)) (list_all p (map f xs)) e, each_passes p f xs (and_right (p (f x)) (list_all p (map f xs)) e))
-
-all_pass : {A B : Type 0} (p : B → Bool) (f : A → B) (xs : List A) → AllByRecursion (λ x. p (f x) ≡ true) xs → list_all p (map f xs) ≡ true
-all_pass p f [] h = refl
-all_pass p f (x ∷ xs) h = ap₂ (λ a b. a && b) h.0 (all_pass p f xs h.1)
-
 first_is : (xs : List FromItem) → first_starts (map source_starts xs) ≡ begins xs
 first_is [] = refl
 first_is (s ∷ xs) = ap (λ (p : Start). p.0) (source_starts-is s)
@@ -110,13 +102,13 @@ starting_begins _ _ (InFrom b n s q c at is more) e =
     starting_begins q c more
     (sym (starts-Query q) ∙ ap origin_starts (sym is) ∙ sym (ap (λ (p : Start). p.1) (source_starts-is s))
     ∙ all_at (λ s. (source_starts s).1 ≡ true) (out-Block b).sources n s
-    (each_passes (λ p. p.1) source_starts (out-Block b).sources (and_right (first_starts (map source_starts (out-Block b).sources)) (list_all (λ s. s.1) (map source_starts (out-Block b).sources)) here)) at)
+    (all_pass (λ p. p.1) source_starts (out-Block b).sources (and_right (first_starts (map source_starts (out-Block b).sources)) (list_all (λ s. s.1) (map source_starts (out-Block b).sources)) here)) at)
 starting_begins _ _ (First q rest c more) e = starting_begins q c more (and_left (starts q) (list_all (λ b. b) (map (λ s. starts s.query) rest)) (sym (starts-Chain q rest) ∙ e))
 starting_begins _ _ (Later q rest n s c at more) e =
     starting_begins s.query c more
-    (all_at (λ s. starts s.query ≡ true) rest n s (each_passes (λ b. b) (λ s. starts s.query) rest (and_right (starts q) (list_all (λ b. b) (map (λ s. starts s.query) rest)) (sym (starts-Chain q rest) ∙ e))) at)
+    (all_at (λ s. starts s.query ≡ true) rest n s (all_pass (λ b. b) (λ s. starts s.query) rest (and_right (starts q) (list_all (λ b. b) (map (λ s. starts s.query) rest)) (sym (starts-Chain q rest) ∙ e))) at)
 starting_begins _ _ (Member qs n q c at more) e =
-    starting_begins q c more (all_at (λ q. starts q ≡ true) qs n q (each_passes (λ b. b) starts qs (sym (starts-Intersect qs) ∙ e)) at)
+    starting_begins q c more (all_at (λ q. starts q ≡ true) qs n q (all_pass (λ b. b) starts qs (sym (starts-Intersect qs) ∙ e)) at)
 
 -- ---- what is spelled passes the test
 
@@ -188,7 +180,7 @@ module _ (relations : List Relation) where
   chain_good first (second ∷ more) h hs = subst Good (sym (resolved-Chain relations first (second ∷ more)))
       (starts-Chain (resolved relations first).query (map made_step (map (resolved_step relations) (second ∷ more)))
       ∙ ap₂ (λ x y. x && y) h
-      (all_pass (λ b. b) (λ s. starts s.query) (map made_step (map (resolved_step relations) (second ∷ more)))
+      (all_passed (λ b. b) (λ s. starts s.query) (map made_step (map (resolved_step relations) (second ∷ more)))
       (steps_good (map (resolved_step relations) (second ∷ more)) (all_over (λ s. Good s.1) (resolved_step relations) (second ∷ more) hs))))
 
   intersect_good : (first : QueryTree) (more : List QueryTree) → Good (resolved relations first) → AllByRecursion (λ q. Good (resolved relations q)) more → Good (resolved relations (intersect_of first more))
@@ -196,7 +188,7 @@ module _ (relations : List Relation) where
   intersect_good first [] h hs = h
   intersect_good first (second ∷ more) h hs = subst Good (sym (resolved-Intersect relations (first ∷ second ∷ more)))
       (starts-Intersect (map (λ m. m.query) (map (resolved relations) (first ∷ second ∷ more)))
-      ∙ all_pass (λ b. b) starts (map (λ m. m.query) (map (resolved relations) (first ∷ second ∷ more)))
+      ∙ all_passed (λ b. b) starts (map (λ m. m.query) (map (resolved relations) (first ∷ second ∷ more)))
       (all_over (λ q. starts q ≡ true) (λ m. m.query) (map (resolved relations) (first ∷ second ∷ more)) (all_over Good (resolved relations) (first ∷ second ∷ more) (h, hs))))
 
   mutual

@@ -4,6 +4,7 @@ use Rattle.std.proofs.lemmas.Int.{ints}
 use Rattle.std.specs.Prelude.{◌+ℤ◌, option_to_list}
 use Rattle.std.specs.List.{AllByRecursion, flat_map}
 use Rattle.std.proofs.lemmas.List.{length-append, map-append}
+use Rattle.std.proofs.lemmas.List.Concat.{flat_map_single}
 use Rattle.std.proofs.lemmas.Simd.{map-map}
 use Rattle.sq_value.specs.declared.value.Value.{Value}
 use Rattle.sq_value.specs.declared.value.Value.TheVariants.{Null, Int, Text}
@@ -186,10 +187,6 @@ module _ (key : Row → Row) where
     all_weaker (HasRows rows) (HasRows (row ∷ rows)) (map key rows) (more_rows row rows) (keys_have_rows rows),
   )
 
-flat_of_singles : {A B : Type 0} (f : A → B) (xs : List A) → flat_map (λ x. f x ∷ []) xs ≡ map f xs
-flat_of_singles f [] = refl
-flat_of_singles f (x ∷ xs) = ap (λ ys. f x ∷ ys) (flat_of_singles f xs)
-
 module _ (g : Grouping) (rows : List Row) (h : CallsSuit rows g.calls) where
   abbrev pub made : Row → Row
   made row = items_of (group_items g) row
@@ -224,7 +221,7 @@ module _ (g : Grouping) (rows : List Row) (h : CallsSuit rows g.calls) where
       ∙ flat_map_agree (λ k. group_of_list (group_spec g).calls k (members_at row_cmp (group_of (group_spec g)) k (map made rows))) (λ k. group_row g.calls (k, found k) ∷ []) (first_of_each row_cmp (map key_of_row rows))
       (all_weaker (HasRows key_of_row rows) (λ k. group_of_list (group_spec g).calls k (members_at row_cmp (group_of (group_spec g)) k (map made rows)) ≡ group_row g.calls (k, found k) ∷ []) (first_of_each row_cmp (map key_of_row rows)) one_group
       (all_first (HasRows key_of_row rows) (map key_of_row rows) (keys_have_rows key_of_row rows)))
-      ∙ flat_of_singles (λ k. group_row g.calls (k, found k)) (first_of_each row_cmp (map key_of_row rows))
+      ∙ flat_map_single (λ k. group_row g.calls (k, found k)) (first_of_each row_cmp (map key_of_row rows))
       ∙ sym (map-map (group_row g.calls) (λ k. (k, found k)) (first_of_each row_cmp (map key_of_row rows)))
 
 aggregated_are : (columns : List ℕ) (g : Grouping) → g.columns ≡ columns → (rows : List Row) → CallsSuit rows g.calls → aggregated (group_spec g) (listed (map (items_of (group_items g)) rows)) ≡ listed (map (group_row g.calls) (groups columns rows))

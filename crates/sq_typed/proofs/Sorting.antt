@@ -40,7 +40,7 @@ use Rattle.sq_typed.specs.declared.query.Query.{Query}
 use Rattle.sq_typed.specs.declared.query.Query.TheVariants as query
 use Rattle.sq_typed.specs.declared.query.SetStep.{SetStep}
 use Rattle.sq_typed.specs.Blocks.{arguments, block_answer, call_value, group_row, groups, item_rows, present, selected, sum_or_null, without_repeats}
-use Rattle.sq_typed.specs.Fit.{Fits, Kinded, KindedSource, Pairwise, are_matched, block_kinded, clauses_fit, grouped_kinds, has_some, item_row_kinds, joined_kinds, kinded, kinded_origin, kinded_source, kinds_given, on_suits, operation_kinded, relation_kinded, source_kinds, sources_fit, wider_kinds}
+use Rattle.sq_typed.specs.Fit.{Fits, Kinded, KindedSource, Pairwise, are_matched, block_kinded, clauses_fit, grouped_kinds, has_some, item_row_kinds, joined_kinds, kinded, kinded_origin, kinded_source, kinds_given, on_suits, operation_kinded, relation_kinded, sources_fit, wider_kinds}
 use Rattle.sq_typed.specs.From.{Row, Answer, Source, all_hold, from, inner, joined_by, kept, matches, members_of, or_padded}
 use Rattle.sq_typed.specs.Laws.{HasItsWidth, width_of_all}
 use Rattle.sq_typed.specs.Numbered.{call_kind, kind_of, kind_step}
@@ -55,7 +55,7 @@ use Rattle.sq_typed.proofs.FitRows.{length_mapped}
 use Rattle.sq_typed.proofs.FitTests.{sources_suit}
 use Rattle.sq_typed.proofs.Tests.{all_filter, and_left, and_right, every}
 use Rattle.sq_typed.proofs.Trees.{QueryCases, each_origin, each_query}
-use Rattle.sq_typed.specs.Sorts.{AreAllOfSorts, AreOfSorts, GivesSorts, HoldsSorts}
+use Rattle.sq_typed.specs.Sorts.{AreAllOfSorts, AreOfSorts, GivesSorts, HoldsSorts, SourcesHaveWidths}
 
 -- ---- rows
 
@@ -334,8 +334,8 @@ module _ (relations : List Contents) (kss : List (List Kind)) (holds : Pairwise 
   given : Pairwise SourceGivesSorts (map (source_of_item relations) (out-Block b).sources) (map (kinded_source kss) (out-Block b).sources)
   given = sources_sorts relations kss holds (out-Block b).sources (sources_suit kss b fits)
 
-  pub block_source_widths : AllByRecursion (λ s. HasItsWidth s.answer) (map (source_of_item relations) (out-Block b).sources)
-  block_source_widths = source_widths (map (source_of_item relations) (out-Block b).sources) (map (kinded_source kss) (out-Block b).sources) given
-
-  pub block_width : width_of_all (map (source_of_item relations) (out-Block b).sources) ≡ length (source_kinds kss b)
-  block_width = width_of_sources (map (source_of_item relations) (out-Block b).sources) (map (kinded_source kss) (out-Block b).sources) given
+  pub block_widths : SourcesHaveWidths relations kss b
+  block_widths = record {
+    each = source_widths (map (source_of_item relations) (out-Block b).sources) (map (kinded_source kss) (out-Block b).sources) given;
+    all = width_of_sources (map (source_of_item relations) (out-Block b).sources) (map (kinded_source kss) (out-Block b).sources) given;
+  }

@@ -1,21 +1,19 @@
 //! The sorts of rows: numbers and texts as their columns say, without a word on range. Each law is the contract of a function that
 //! does nothing.
-ghost use Rattle.std.specs.Prelude.{◌≡◌, List, length, map};
-ghost use Rattle.std.specs.List.{AllByRecursion};
+ghost use Rattle.std.specs.Prelude.{◌≡◌, List, length};
 ghost use Rattle.sq_value.specs.declared.value.Value.{Value as Datum};
 ghost use Rattle.sq_expr.specs.declared.expr.Expr.{Expr as Expression};
 ghost use Rattle.sq_expr.specs.declared.expr.Kind.{Kind as ColumnKind};
 ghost use Rattle.sq_expr.specs.Kinds.{AreOfKinds};
 ghost use Rattle.sq_expr.specs.Meaning.{num};
 ghost use Rattle.sq_expr.specs.Typing.{IsOfSort, sort_of_kind};
-ghost use Rattle.sq_typed.specs.Fit.{Fits, Pairwise, kinded_source, source_kinds};
-ghost use Rattle.sq_typed.specs.Laws.{HasItsWidth, width_of_all};
+ghost use Rattle.sq_typed.specs.Fit.{Fits, Pairwise};
 ghost use Rattle.sq_typed.specs.Numbered.{kind_of};
-ghost use Rattle.sq_typed.specs.Queries.{Contents, source_of_item};
-ghost use Rattle.sq_typed.specs.declared.query.Block.{Block as Selected, out-Block};
+ghost use Rattle.sq_typed.specs.Queries.{Contents};
+ghost use Rattle.sq_typed.specs.declared.query.Block.{Block as Selected};
 ghost use Rattle.sq_typed.specs.declared.query.Query.TheVariants as query;
 ghost use Rattle.sq_typed.specs.declared.query.Query.{Query as Selection};
-ghost use Rattle.sq_typed.specs.Sorts.{AreOfSorts, GivesItsSorts, HoldsSorts};
+ghost use Rattle.sq_typed.specs.Sorts.{AreOfSorts, GivesItsSorts, HoldsSorts, SourcesHaveWidths};
 
 /// A row of some kinds is of their sorts. One of some sorts has as many values, and there an expression has a value of its sort.
 #[tactic(auto, using(crate::proofs::Sorting::kinds_have_sorts, crate::proofs::Sorting::length_of_sorts, crate::proofs::Sorting::value_sort))]
@@ -32,10 +30,7 @@ pub fn rows_of_queries_are_of_sorts()
 
 /// Over such relations the rows of each source of a block that fits have the source's width, and the widths add up to the number of
 /// the columns of all sources.
-#[tactic(auto, using(crate::proofs::Sorting::block_source_widths, crate::proofs::Sorting::block_width))]
 pub fn sources_of_blocks_have_widths()
-    ensures each { (relations : List Contents) (kinds : List (List ColumnKind)) → Pairwise HoldsSorts relations kinds → (b : Selected) → Fits kinds (query.Block b)
-        → AllByRecursion (λ s. HasItsWidth s.answer) (map (source_of_item relations) (out-Block b).sources) }
-    ensures all { (relations : List Contents) (kinds : List (List ColumnKind)) → Pairwise HoldsSorts relations kinds → (b : Selected) → Fits kinds (query.Block b)
-        → width_of_all (map (source_of_item relations) (out-Block b).sources) ≡ length (source_kinds kinds b) }
+    ensures { (relations : List Contents) (kinds : List (List ColumnKind)) → Pairwise HoldsSorts relations kinds → (b : Selected) → Fits kinds (query.Block b)
+        → SourcesHaveWidths relations kinds b }
 {}
