@@ -1,4 +1,4 @@
-//! Tests of traces: what no clause says, that calls succeed with ample memory, and that the answers and the steps are the
+//! Tests of traces and of shards: what no clause says, that calls succeed with ample memory, and that the answers and the steps are the
 //! intended ones. Nothing else stands here.
 #![tactic(auto)]
 
@@ -8,5 +8,7 @@ mod ends;
 mod random;
 #[cfg(test)]
 mod rows;
+#[cfg(test)]
+mod shards;
 #[cfg(test)]
 mod traces;

@@ -1,0 +1,4 @@
+pub mod Gathering
+pub mod Hashing
+pub mod Parting
+pub mod Sharing
