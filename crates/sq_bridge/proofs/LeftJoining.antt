@@ -12,9 +12,7 @@ use Rattle.sq_algebra.proofs.PaddingLemmas.{of_list-padded, unmatched_is}
 use Rattle.sq_zset.proofs.RowOperators.{distinct-of_list, image-of_list-map, keep-of_list, product-of_list}
 use Rattle.sq_expr.specs.declared.cond.Cond.{Cond}
 use Rattle.sq_expr.specs.declared.cond.Cond.TheVariants as condition
-use Rattle.sq_expr.specs.declared.expr.Expr.TheVariants as expr
-use Rattle.sq_expr.specs.Meaning.{column_of, columns_of, num}
-use Rattle.sq_expr.proofs.Equations.{num-Column}
+use Rattle.sq_expr.specs.Meaning.{columns_of}
 use Rattle.sq_expr.proofs.Lists.{all_flattened, all_weaker}
 use Rattle.sq_ops.specs.Rows.{Row, holds, items_of, padded}
 use Rattle.sq_ops.proofs.ListTies.{one_pair}

@@ -1,5 +1,5 @@
 -- A number is outside BIGINT on lists exactly if an operator says so of their Z-sets, and a place has as many rows as its list.
-use Rattle.std.proofs.Common.{◌≡◌, ℕ, suc, ◌^◌, ℤ, pos, List, [], ◌∷◌, ◌++◌, map, length, Bool, true, false, cond, not, ◌&&◌, ◌||◌, Option, Some, None, filter, refl, sym, ap, ap₂, ◌∙◌, append_assoc, arith, is_eq}
+use Rattle.std.proofs.Common.{◌≡◌, ℕ, suc, ◌^◌, ℤ, pos, List, [], ◌∷◌, ◌++◌, map, length, Bool, true, cond, not, ◌&&◌, ◌||◌, Option, Some, None, filter, refl, sym, ap, ap₂, ◌∙◌, append_assoc, arith, is_eq}
 use Rattle.std.proofs.lemmas.Int.{ints}
 use Rattle.std.specs.Prelude.{◌+ℤ◌, int_lt, is_some, option_to_list}
 use Rattle.std.specs.List.{AllByRecursion, flat_map, list_any}

@@ -1,9 +1,8 @@
 -- The rows of queries that fit are of their kinds.
-use Rattle.std.proofs.Common.{◌≡◌, ℕ, zero, suc, ◌^◌, ◌≤◌, List, [], ◌∷◌, ◌++◌, map, fold, length, get_or, Bool, true, false, not, ◌&&◌, ◌||◌, ◌==◌, refl, sym, ap, subst, ◌∙◌, arith}
-use Rattle.std.specs.Prelude.{slice_get, Option, Some, None}
+use Rattle.std.proofs.Common.{◌≡◌, ℕ, suc, ◌^◌, ◌≤◌, List, [], ◌∷◌, ◌++◌, map, fold, length, Bool, true, false, not, ◌&&◌, ◌||◌, ◌==◌, refl, sym, ap, subst, ◌∙◌, arith}
+use Rattle.std.specs.Prelude.{Option, Some, None}
 use Rattle.std.specs.List.{AllByRecursion, flat_map, list_any, list_all}
 use Rattle.std.proofs.lemmas.Bool.{ltb-false}
-use Rattle.std.proofs.lemmas.List.{length-append}
 use Rattle.sq_value.specs.declared.value.Value.{Value}
 use Rattle.sq_value.specs.Count.{count}
 use Rattle.sq_value.specs.Order.{row_cmp}
@@ -21,30 +20,22 @@ use Rattle.sq_expr.specs.Typing.{sort_of_kind, are_alike, is_typed_cond}
 use Rattle.sq_expr.proofs.Lists.{all_front, all_back, all_append, all_weaker}
 use Rattle.sq_expr.proofs.Names.{cond_names_in_range, members_narrower}
 use Rattle.sq_expr.proofs.Rows.{length_of_kinds, integers_are_bigints, kinds_joined, kinds_of_nulls}
-use Rattle.sq_typed.specs.declared.query.Block.{out-Block}
-use Rattle.sq_typed.specs.declared.query.FromItem.{FromItem}
 use Rattle.sq_typed.specs.declared.query.FromJoin.{FromJoin}
 use Rattle.sq_typed.specs.declared.query.FromJoin.TheVariants.{Comma, Inner, Left}
 use Rattle.sq_typed.specs.declared.query.Grouping.{Grouping}
 use Rattle.sq_typed.specs.declared.query.Origin.{Origin}
-use Rattle.sq_typed.specs.declared.query.Origin.TheVariants as origin
 use Rattle.sq_typed.specs.declared.query.Query.{Query}
-use Rattle.sq_typed.specs.declared.query.Query.TheVariants as query
-use Rattle.sq_typed.specs.declared.query.SetStep.{SetStep}
 use Rattle.sq_typed.specs.Blocks.{block_answer, item_rows, selected, tested_calls}
-use Rattle.sq_typed.specs.Fit.{Kinded, KindedSource, may_suit, on_suits, joined_kinds, sources_fit, has_some, item_row_kinds, may_group, suits, clauses_fit, block_kinded, are_small, are_matched, wider_kinds, operation_kinded, relation_kinded, kinded, kinded_origin, kinded_source, kinds_given, Fits, AreAllOfKinds, Pairwise, HoldsKinds, GivesKinds, SourceGivesKinds}
+use Rattle.sq_typed.specs.Fit.{Kinded, KindedSource, may_suit, on_suits, joined_kinds, sources_fit, has_some, item_row_kinds, may_group, suits, clauses_fit, block_kinded, are_small, are_matched, wider_kinds, operation_kinded, kinded_origin, kinds_given, Fits, AreAllOfKinds, Pairwise, HoldsKinds, GivesKinds}
 use Rattle.sq_typed.specs.From.{Row, Answer, Source, all_hold, members_of, members_at, joined_by, stage, stages_from, widths_of, stages, kept}
-use Rattle.sq_typed.specs.Laws.{HasItsWidth, width_of_all, last_of}
+use Rattle.sq_typed.specs.Laws.{last_of}
 use Rattle.sq_typed.specs.Numbered.{kind_of}
-use Rattle.sq_typed.specs.Queries.{Contents, relation_answer, chain_answer, set_rows, intersect_rows, intersect_answer, after_each, answer, origin_answer, source_of_item, member_answer, is_outside, is_crowded, has_range_fault}
+use Rattle.sq_typed.specs.Queries.{Contents, chain_answer, set_rows, intersect_rows, intersect_answer, after_each, answer, origin_answer, is_outside, is_crowded, has_range_fault}
 use Rattle.sq_typed.specs.Resolved.{wider}
 use Rattle.sq_typed.proofs.AnswerLemmas.{all_first}
-use Rattle.sq_typed.proofs.Equations.{source-is, member-is, origin-Relation, origin-Query, answer-Block, answer-Chain, answer-Intersect}
-use Rattle.sq_typed.proofs.FitEquations.{kinded_source-is, kinded-Relation, kinded-Query, kinded-Block, kinded-Chain, kinded-Intersect}
 use Rattle.sq_typed.proofs.FitRows.{Inside, length_filter, length_mapped, rows_of_groups_are, rows_of_items}
 use Rattle.sq_typed.proofs.GivenRows.{GoodParts, GoodSource, SourceGives, all_widths, once_of, origin_good, query_good, relation_gives, sources_widths, where_of}
 use Rattle.sq_typed.proofs.Tests.{and_left, and_right, all_filter}
-use Rattle.sq_typed.proofs.Trees.{QueryCases, each_query, each_origin}
 use Rattle.sq_typed.proofs.WhereLemmas.{where_keeps_the_last}
 
 -- ---- tests of lists

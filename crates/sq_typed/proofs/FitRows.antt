@@ -1,15 +1,14 @@
 -- The rows of FROM, of groups and of items are of their kinds.
-use Rattle.std.proofs.Common.{◌≡◌, ℕ, zero, suc, ◌^◌, ◌≤◌, ℤ, pos, negsuc, List, [], ◌∷◌, ◌++◌, map, fold, length, get_or, Bool, true, false, cond, not, filter, refl, sym, ap, subst, ◌∙◌, append_assoc, arith}
+use Rattle.std.proofs.Common.{◌≡◌, ℕ, zero, suc, ◌^◌, ◌≤◌, pos, negsuc, List, [], ◌∷◌, ◌++◌, map, length, get_or, Bool, true, false, cond, not, filter, refl, sym, ap, subst, ◌∙◌, arith}
 use Rattle.std.proofs.lemmas.Int.{ints}
-use Rattle.std.specs.Prelude.{nat_lt, ◌+ℤ◌, ◌*ℤ◌, replicate, Option, Some, None, FitsSigned, ⊤}
+use Rattle.std.specs.Prelude.{nat_lt, ◌+ℤ◌, ◌*ℤ◌, Option, Some, None, FitsSigned, ⊤}
 use Rattle.std.specs.Int.{w64}
 use Rattle.std.specs.List.{AllByRecursion, flat_map}
-use Rattle.std.specs.Ordering.{is_eq, is_lt}
-use Rattle.std.proofs.lemmas.List.{append-nil}
+use Rattle.std.specs.Ordering.{is_eq}
 use Rattle.std.proofs.lemmas.Bool.{ltb-true}
 use Rattle.sq_value.specs.declared.value.Value.{Value}
 use Rattle.sq_value.specs.declared.value.Value.TheVariants.{Null, Int, Text}
-use Rattle.sq_value.specs.Order.{value_cmp, row_cmp}
+use Rattle.sq_value.specs.Order.{row_cmp}
 use Rattle.sq_algebra.specs.Listed.{first_of_each}
 use Rattle.sq_expr.specs.declared.cond.Cond.{Cond}
 use Rattle.sq_expr.specs.declared.expr.Expr.{Expr, roll-Expr, out-Expr, roll-out-Expr}
@@ -21,19 +20,17 @@ use Rattle.sq_expr.specs.declared.expr.Kind.{Kind}
 use Rattle.sq_expr.specs.declared.expr.Kind.TheVariants as kind
 use Rattle.sq_expr.specs.declared.expr.Term.{Term}
 use Rattle.sq_expr.specs.Kinds.{IsOfKind, AreOfKinds}
-use Rattle.sq_expr.specs.Meaning.{column_of, negative, of_both, sum_of, product_of, num, term_num, is_null, columns_of}
+use Rattle.sq_expr.specs.Meaning.{column_of, negative, sum_of, product_of, num, term_num, is_null, columns_of}
 use Rattle.sq_expr.proofs.Equations.{num-Column, num-Number, num-Text, num-Neg, num-Sum, num-Product}
-use Rattle.sq_expr.proofs.Lists.{all_front, all_back, all_flat, all_flattened, all_weaker}
+use Rattle.sq_expr.proofs.Lists.{all_front, all_back, all_flat, all_weaker}
 use Rattle.sq_expr.proofs.Rows.{kinds_joined, kinds_of_nulls}
 use Rattle.sq_typed.specs.declared.query.BlockCall.{BlockCall}
 use Rattle.sq_typed.specs.declared.query.FromJoin.{FromJoin}
-use Rattle.sq_typed.specs.declared.query.FromJoin.TheVariants.{Comma, Inner, Left}
 use Rattle.sq_typed.specs.declared.query.Grouping.{Grouping}
-use Rattle.sq_typed.specs.Blocks.{present, sum_or_null, arguments, call_value, is_sum, groups, group_row, item_rows, selected, without_repeats, tested_calls}
+use Rattle.sq_typed.specs.Blocks.{present, sum_or_null, arguments, call_value, is_sum, groups, group_row, item_rows, selected, tested_calls}
 use Rattle.sq_typed.specs.Fit.{grouped_kinds, AreAllOfKinds, GivesKinds, SourceGivesKinds, Pairwise}
-use Rattle.sq_typed.specs.From.{Row, Answer, Source, all_hold, members_of, matches, or_padded, inner, joined_by, from, kept}
+use Rattle.sq_typed.specs.From.{Row, Answer, Source, all_hold, members_of, joined_by, from, kept}
 use Rattle.sq_typed.specs.Numbered.{kind_step, kind_of, call_kind}
-use Rattle.sq_expr.specs.Extremes.{greatest_or_null, least_or_null}
 use Rattle.sq_typed.specs.Queries.{is_outside}
 use Rattle.sq_typed.proofs.AnswerLemmas.{all_first}
 use Rattle.sq_typed.proofs.GivenRows.{IsNumber, from_of, greatest_of, joined_of, kept_of, least_of, number_folded, number_negative, number_sum}

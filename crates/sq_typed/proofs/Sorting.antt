@@ -1,13 +1,11 @@
 -- The rows of queries are of their columns' sorts.
-use Rattle.std.proofs.Common.{◌≡◌, ℕ, zero, suc, ℤ, pos, List, [], ◌∷◌, ◌++◌, map, fold, length, get_or, Bool, true, false, cond, not, ◌&&◌, ◌==◌, filter, refl, sym, ap, subst, ◌∙◌, append_assoc, arith, is_eq}
+use Rattle.std.proofs.Common.{◌≡◌, ℕ, zero, suc, pos, List, [], ◌∷◌, ◌++◌, map, fold, length, get_or, Bool, true, not, ◌&&◌, ◌==◌, filter, refl, sym, ap, subst, ◌∙◌, is_eq}
 use Rattle.std.specs.Prelude.{◌+ℤ◌, ◌*ℤ◌, replicate, slice_get, Option, Some, None, option_map}
 use Rattle.std.specs.List.{AllByRecursion, list_all}
-use Rattle.std.specs.Ordering.{is_lt}
-use Rattle.std.proofs.lemmas.List.{append-nil, length-append}
 use Rattle.sq_value.specs.declared.value.Value.{Value}
 use Rattle.sq_value.specs.declared.value.Value.TheVariants.{Null, Int, Text}
 use Rattle.sq_value.specs.Count.{count}
-use Rattle.sq_value.specs.Order.{row_cmp, value_cmp}
+use Rattle.sq_value.specs.Order.{row_cmp}
 use Rattle.sq_algebra.specs.Listed.{first_of_each}
 use Rattle.sq_ast.specs.declared.query.SetOp.{SetOp}
 use Rattle.sq_ast.specs.declared.query.SetOp.TheVariants.{UnionAll, Union, Except}
@@ -20,41 +18,31 @@ use Rattle.sq_expr.specs.declared.expr.Func.TheVariants.{CountAll, Count, Sum, M
 use Rattle.sq_expr.specs.declared.expr.Kind.{Kind}
 use Rattle.sq_expr.specs.declared.expr.Kind.TheVariants as kind
 use Rattle.sq_expr.specs.declared.expr.Term.{Term}
-use Rattle.sq_expr.specs.declared.typing.Sort.{Sort}
 use Rattle.sq_expr.specs.declared.typing.Sort.TheVariants.{Numeric, Textual}
-use Rattle.sq_expr.specs.Extremes.{greatest_or_null, least_or_null}
 use Rattle.sq_expr.specs.Kinds.{AreOfKinds, IsOfKind}
-use Rattle.sq_expr.specs.Meaning.{column_of, columns_of, is_null, negative, num, of_both, term_num}
+use Rattle.sq_expr.specs.Meaning.{column_of, columns_of, is_null, num, term_num}
 use Rattle.sq_expr.specs.Typing.{IsOfSort, are_alike, is_numeric, sort_of, sort_of_kind}
 use Rattle.sq_expr.proofs.Equations.{num-Column, num-Neg, num-Number, num-Product, num-Sum, num-Text, sort_of-Column, sort_of-Text}
-use Rattle.sq_expr.proofs.Lists.{all_append, all_flattened, all_weaker}
+use Rattle.sq_expr.proofs.Lists.{all_append, all_weaker}
 use Rattle.sq_typed.specs.declared.query.Block.{Block, out-Block}
 use Rattle.sq_typed.specs.declared.query.BlockCall.{BlockCall}
 use Rattle.sq_typed.specs.declared.query.FromItem.{FromItem}
-use Rattle.sq_typed.specs.declared.query.FromJoin.{FromJoin}
-use Rattle.sq_typed.specs.declared.query.FromJoin.TheVariants.{Comma, Inner, Left}
 use Rattle.sq_typed.specs.declared.query.Grouping.{Grouping}
-use Rattle.sq_typed.specs.declared.query.Origin.{Origin}
-use Rattle.sq_typed.specs.declared.query.Origin.TheVariants as origin
 use Rattle.sq_typed.specs.declared.query.Query.{Query}
 use Rattle.sq_typed.specs.declared.query.Query.TheVariants as query
-use Rattle.sq_typed.specs.declared.query.SetStep.{SetStep}
-use Rattle.sq_typed.specs.Blocks.{arguments, block_answer, call_value, group_row, groups, item_rows, present, selected, sum_or_null, without_repeats}
-use Rattle.sq_typed.specs.Fit.{Fits, Kinded, KindedSource, Pairwise, are_matched, block_kinded, clauses_fit, grouped_kinds, has_some, item_row_kinds, joined_kinds, kinded, kinded_origin, kinded_source, kinds_given, on_suits, operation_kinded, relation_kinded, sources_fit, wider_kinds}
-use Rattle.sq_typed.specs.From.{Row, Answer, Source, all_hold, from, inner, joined_by, kept, matches, members_of, or_padded}
+use Rattle.sq_typed.specs.Blocks.{arguments, block_answer, call_value, group_row, groups, item_rows, present, selected}
+use Rattle.sq_typed.specs.Fit.{Fits, Kinded, KindedSource, Pairwise, are_matched, block_kinded, clauses_fit, grouped_kinds, has_some, item_row_kinds, joined_kinds, kinded_source, kinds_given, on_suits, operation_kinded, sources_fit, wider_kinds}
+use Rattle.sq_typed.specs.From.{Row, Answer, Source, all_hold, kept, members_of}
 use Rattle.sq_typed.specs.Laws.{HasItsWidth, width_of_all}
 use Rattle.sq_typed.specs.Numbered.{call_kind, kind_of, kind_step}
-use Rattle.sq_typed.specs.Queries.{Contents, answer, chain_answer, intersect_answer, intersect_rows, member_answer, origin_answer, relation_answer, set_rows, source_of_item}
+use Rattle.sq_typed.specs.Queries.{Contents, answer, chain_answer, intersect_answer, intersect_rows, set_rows, source_of_item}
 use Rattle.sq_typed.specs.Resolved.{wider}
 use Rattle.sq_typed.proofs.AnswerLemmas.{all_first}
-use Rattle.sq_typed.proofs.Equations.{answer-Block, answer-Chain, answer-Intersect, member-is, origin-Query, origin-Relation, source-is}
-use Rattle.sq_typed.proofs.FitEquations.{kinded-Block, kinded-Chain, kinded-Intersect, kinded-Query, kinded-Relation, kinded_source-is}
 use Rattle.sq_typed.proofs.FitQueries.{length_widest, operands_fit}
 use Rattle.sq_typed.proofs.GivenRows.{GoodParts, GoodSource, IsNumber, SourceGives, all_widths, greatest_of, its_width, least_of, number_folded, number_negative, number_sum, once_of, query_good, relation_gives, sources_good, sources_widths, where_of}
 use Rattle.sq_typed.proofs.FitRows.{length_mapped}
 use Rattle.sq_typed.proofs.FitTests.{sources_suit}
-use Rattle.sq_typed.proofs.Tests.{all_filter, and_left, and_right, every}
-use Rattle.sq_typed.proofs.Trees.{QueryCases, each_origin, each_query}
+use Rattle.sq_typed.proofs.Tests.{all_filter, and_left, and_right}
 use Rattle.sq_typed.specs.Sorts.{AreAllOfSorts, AreOfSorts, GivesSorts, HoldsSorts, SourcesHaveWidths}
 
 -- ---- rows
