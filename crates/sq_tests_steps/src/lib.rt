@@ -1,0 +1,12 @@
+//! Tests of operators step by step: what no clause says, that calls succeed with ample memory, and that the answers and the
+//! steps are the intended ones. Nothing else stands here.
+#![tactic(auto)]
+
+#[cfg(test)]
+mod distincts;
+#[cfg(test)]
+mod joins;
+#[cfg(test)]
+mod rows;
+#[cfg(test)]
+mod traces;
