@@ -34,14 +34,14 @@ front_columns w row other e = columns_below w (row ++ other) (omega (arith, e, l
 -- ---- rows that are the same
 
 -- the row, if the other is the same
-abbrev if_same : Row → Row → List Row
+abbrev pub if_same : Row → Row → List Row
 if_same row other = cond (is_eq (row_cmp row other)) (row ∷ []) []
 
 and_true : (b : Bool) → (b && true) ≡ b
 and_true true = refl
 and_true false = refl
 
-same_pair : (w : ℕ) (row other : Row) → length row ≡ w → length other ≡ w → joins (same_rows w) row other ≡ if_same row other
+pub same_pair : (w : ℕ) (row other : Row) → length row ≡ w → length other ≡ w → joins (same_rows w) row other ≡ if_same row other
 same_pair w row other ew ev =
     one_pair (Some (columns_of (numbers_below w) row)) (Some (columns_of (numbers_below w) other)) (holds (condition.All []) (row ++ other)) (columns_of (numbers_below w) (row ++ other))
     ∙ ap₂ (λ b r. cond b (r ∷ []) [])

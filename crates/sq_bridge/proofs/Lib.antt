@@ -1,6 +1,7 @@
 pub mod Lists
 pub mod Joining
 pub mod LeftJoining
+pub mod Parts
 pub mod Staging
 pub mod Grouping
 pub mod Combining

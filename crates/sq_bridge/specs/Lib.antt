@@ -1,5 +1,6 @@
 pub mod Rows
 pub mod Joins
+pub mod Parts
 pub mod Nodes
 pub mod Groups
 pub mod Queries

@@ -5,6 +5,7 @@
 
 pub mod group_laws;
 pub mod join_laws;
+pub mod part_laws;
 pub mod query_laws;
 pub mod range_laws;
 pub mod set_laws;
