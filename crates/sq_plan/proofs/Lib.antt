@@ -1,0 +1,9 @@
+pub mod Adding
+pub mod Primitives
+pub mod KeyForms
+pub mod Stepping
+pub mod LeftSteps
+pub mod FromSteps
+pub mod GroupSteps
+pub mod FromLoop
+pub mod BlockSteps
