@@ -7,3 +7,4 @@ pub mod Bounding
 pub mod Summing
 pub mod Tallying
 pub mod Holding
+pub mod Ends

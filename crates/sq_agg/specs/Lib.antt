@@ -2,3 +2,4 @@ pub mod ByKey
 pub mod Accumulators
 pub mod Tallies
 pub mod GroupLaws
+pub mod Kept
