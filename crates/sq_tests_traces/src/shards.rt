@@ -26,8 +26,16 @@ fn mixed_row(alloc: Global) -> Result<Row, NoMemory> {
 #[test]
 fn keys_have_these_shards(rt: HostRuntime) -> Result<(), Fail> {
     let alloc = rt.alloc();
-    check_key(&rt, &Row::of(Vec::new(alloc)), &[(1, 0), (2, 0), (7, 0), (64, 0)]);
-    check_key(&rt, &row_of(alloc, 1)?, &[(1, 0), (2, 1), (3, 2), (7, 2), (64, 19)]);
+    check_key(
+        &rt,
+        &Row::of(Vec::new(alloc)),
+        &[(1, 0), (2, 0), (7, 0), (64, 0)],
+    );
+    check_key(
+        &rt,
+        &row_of(alloc, 1)?,
+        &[(1, 0), (2, 1), (3, 2), (7, 2), (64, 19)],
+    );
     check_key(&rt, &row_of(alloc, -1)?, &[(2, 0), (3, 1), (7, 2), (64, 2)]);
     check_key(&rt, &mixed_row(alloc)?, &[(2, 0), (3, 1), (7, 3), (64, 54)]);
     Ok(())
