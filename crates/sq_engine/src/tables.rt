@@ -1,0 +1,88 @@
+//! The tables of a circuit: how many there are, none with rows, and each with its change.
+ghost use Rattle.std.specs.Prelude.{◌≡◌, ◌<◌, ℕ, length, IfOk};
+ghost use Rattle.sq_algebra.specs.ZSet.{plus};
+ghost use Rattle.sq_circuit.specs.Circuits.{table_at};
+ghost use Rattle.sq_circuit.specs.Invariant.{is_table, table_count};
+ghost use Rattle.sq_engine.specs.Engines.{no_tables, with_changes};
+ghost use Rattle.sq_zset.specs.Range.{IsInRange};
+
+use sq_circuit::{Circuit, Node};
+use sq_value::NoMemory;
+use sq_zset::{Group, ZFault, ZSet};
+use std::alloc::Global;
+
+fn is_table(node: &Node) -> bool
+    ensures { result ≡ is_table node.now }
+{
+    match node {
+        Node::Table { .. } => true,
+        Node::Linear { .. } => false,
+        Node::Join { .. } => false,
+        Node::Distinct { .. } => false,
+        Node::Aggregate { .. } => false,
+        Node::Plus { .. } => false,
+        Node::Minus { .. } => false,
+        Node::View { .. } => false,
+    }
+}
+
+// How many tables a circuit has.
+fn table_count(circuit: &Circuit) -> u32
+    ensures { result ≡ table_count circuit.now }
+{
+    let mut count = 0;
+    for i in 0..circuit.len() {
+        if is_table(circuit.node(i)) {
+            count += 1;
+        }
+    }
+    count
+}
+
+/// A Z-set without rows for each table of the circuit.
+pub fn no_tables(alloc: Global, circuit: &Circuit) -> Result<Vec<ZSet>, NoMemory>
+    ensures { IfOk result (λ tables. tables.items ≡ no_tables circuit.now) }
+{
+    let mut tables = Vec::new(alloc);
+    for _table in 0..table_count(circuit) {
+        tables.push(ZSet::empty(alloc))?;
+    }
+    Ok(tables)
+}
+
+/// Each table with its change, all of whose weights are in range; a table without a change stays.
+pub fn changed_tables(
+    alloc: Global,
+    tables: &[ZSet],
+    changes: &[ZSet],
+) -> Result<Vec<ZSet>, NoMemory>
+    requires { (t : ℕ) → t < length tables.now → IsInRange (plus (table_at tables.now t) (table_at changes.now t)) }
+    ensures { IfOk result (λ now. now.items ≡ with_changes tables.now changes.now) }
+{
+    let mut now = Vec::with_capacity(alloc, tables.len())?;
+    for t in 0..tables.len() {
+        now.push(changed_table(alloc, tables, changes, t)?)?;
+    }
+    Ok(now)
+}
+
+// A table with its change.
+fn changed_table(
+    alloc: Global,
+    tables: &[ZSet],
+    changes: &[ZSet],
+    t: usize,
+) -> Result<ZSet, NoMemory>
+    requires inside { t < length tables.now }
+    requires in_range { IsInRange (plus (table_at tables.now t) (table_at changes.now t)) }
+    ensures { IfOk result (λ z. z ≡ plus (table_at tables.now t) (table_at changes.now t)) }
+{
+    if t >= changes.len() {
+        return tables[t].clone_group(alloc);
+    }
+    match tables[t].plus(alloc, &changes[t]) {
+        Ok(z) => Ok(z),
+        Err(ZFault::Memory) => Err(NoMemory),
+        Err(ZFault::Weight { .. }) => unreachable!(),
+    }
+}
