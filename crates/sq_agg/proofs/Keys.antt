@@ -29,7 +29,7 @@ pub group_rows : (spec : AggSpec) (key : List Value) (z : ZSet (List Value) row_
 unfolding at_key keep
 group_rows spec key z = refl
 
-masses : (pairs : List Pair) → mass pairs ≡ mass_of (weighted_rows pairs)
+pub masses : (pairs : List Pair) → mass pairs ≡ mass_of (weighted_rows pairs)
 masses [] = refl
 masses (p ∷ pairs) =
     sum_by-cons (λ (q : Pair). unsigned_abs q.weight) p pairs ∙ ap (λ m. unsigned_abs p.weight + m) (masses pairs)

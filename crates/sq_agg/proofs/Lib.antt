@@ -8,3 +8,8 @@ pub mod Summing
 pub mod Tallying
 pub mod Holding
 pub mod Ends
+pub mod Arguing
+pub mod Values
+pub mod GroupRows
+pub mod Following
+pub mod Changing

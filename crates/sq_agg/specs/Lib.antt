@@ -3,3 +3,5 @@ pub mod Accumulators
 pub mod Tallies
 pub mod GroupLaws
 pub mod Kept
+pub mod Stepping
+pub mod Shifts

@@ -2,9 +2,14 @@
 #![tactic(auto)]
 
 mod acc;
+mod argument;
+mod change;
+mod follow;
 mod group;
+mod group_row;
 pub mod laws;
 mod tally;
+mod value;
 mod whole;
 
 pub use acc::Acc;
