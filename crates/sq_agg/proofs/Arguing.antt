@@ -1,18 +1,16 @@
 -- The arguments of changed rows: they are as few as the rows, and weigh no more.
-use Rattle.std.proofs.Common.{◌≡◌, ℕ, suc, ◌+◌, ◌^◌, ◌≤◌, List, [], ◌∷◌, ◌++◌, length, take, true, false, cond, ℤ, pos, ◌+ℤ◌, Some, None, refl, sym, ap, subst, ◌∙◌, unsigned_abs, arith}
+use Rattle.std.proofs.Common.{◌≡◌, ℕ, ◌+◌, ◌^◌, ◌≤◌, List, [], ◌∷◌, ◌++◌, length, take, true, false, cond, ℤ, pos, ◌+ℤ◌, Some, None, sym, ap, subst, ◌∙◌, unsigned_abs, arith}
 use Rattle.std.specs.Prelude.{slice_get}
-use Rattle.std.specs.List.{flat_map}
 use Rattle.std.specs.Ordering.{int_eq, match_ordering}
 use Rattle.std.specs.declared.cmp.Ordering.TheVariants.{Less, Equal, Greater}
 use Rattle.std.proofs.lemmas.Grind.{flat_map-append}
 use Rattle.std.proofs.lemmas.List.{length-append}
 use Rattle.std.proofs.lemmas.List.Sums.{sum_by-append, sum_by-cons}
 use Rattle.std.proofs.Common.{append-nil}
-use Rattle.sq_value.specs.declared.value.Value.{Value}
 use Rattle.sq_value.specs.Order.{row_cmp}
 use Rattle.sq_value.specs.OrderLaws.{row_cmp-total}
 use Rattle.sq_algebra.specs.Operators.{image, weighing}
-use Rattle.sq_algebra.specs.ZSet.{ZSet, add, collect, entries, from_pairs, in_front}
+use Rattle.sq_algebra.specs.ZSet.{add, collect, entries, from_pairs, in_front}
 use Rattle.sq_algebra.proofs.Weights.{entries-from_pairs}
 use Rattle.sq_expr.specs.Meaning.{column_of}
 use Rattle.sq_ops.specs.Aggregates.{has_value}

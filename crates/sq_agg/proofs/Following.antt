@@ -1,11 +1,9 @@
 -- The accumulator that is kept of a group, and that of its changed rows.
-use Rattle.std.proofs.Common.{◌≡◌, ℕ, ◌+◌, ◌≤◌, ◌^◌, ◌<◌, List, [], ◌∷◌, map, ℤ, pos, Option, Some, None, subst, unsigned_abs, sym, ap, ◌∙◌, refl, lit≤, arith}
+use Rattle.std.proofs.Common.{◌≡◌, ℕ, ◌+◌, ◌≤◌, ◌^◌, ◌<◌, List, [], ◌∷◌, map, ℤ, Option, Some, None, subst, unsigned_abs, sym, ap, ◌∙◌, lit≤, arith}
 use Rattle.std.specs.List.{AllByRecursion}
 use Rattle.std.specs.Ordering.{nat_cmp}
-use Rattle.std.specs.Cmp.{nat_cmp_total}
-use Rattle.std.specs.FinMap.{nat_cmp-IsAntisymmetric}
-use Rattle.sq_algebra.specs.Groups.{IsAbelian, z_sets}
-use Rattle.sq_algebra.specs.ZSet.{ZSet, plus, total, zero as no_places}
+use Rattle.sq_algebra.specs.Groups.{z_sets}
+use Rattle.sq_algebra.specs.ZSet.{plus, total, zero as no_places}
 use Rattle.sq_base.specs.Causes.{raised}
 use Rattle.sq_expr.specs.declared.expr.Func.{Func}
 use Rattle.sq_expr.specs.declared.expr.Func.TheVariants.{CountAll, Count, Sum, Min, Max}

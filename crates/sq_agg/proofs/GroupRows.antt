@@ -4,13 +4,12 @@ use Rattle.std.specs.Prelude.{MatchOption}
 use Rattle.std.specs.Ordering.{int_eq}
 use Rattle.std.proofs.lemmas.List.Sums.{sum_by-cons}
 use borrow.Author.Differences.{ints}
-use Rattle.sq_value.specs.declared.value.Value.{Value}
 use Rattle.sq_value.specs.Order.{row_cmp}
 use Rattle.std.specs.Cmp.{tied_itself}
 use Rattle.sq_value.specs.OrderLaws.{row_cmp-antisymmetric, row_cmp-total}
 use Rattle.sq_algebra.specs.Groups.{integers}
 use Rattle.sq_algebra.specs.Operators.{IsNonNegative}
-use Rattle.sq_algebra.specs.ZSet.{ZSet, entries, entries-zero, entries_canonical, is_canonical, of_list, total, weight, weight_in, zero as no_rows}
+use Rattle.sq_algebra.specs.ZSet.{entries, entries-zero, entries_canonical, is_canonical, of_list, total, weight, weight_in, zero as no_rows}
 use Rattle.sq_algebra.proofs.PairLemmas.{nonzero_from, zero_from}
 use Rattle.sq_algebra.proofs.Weights.{front_of}
 use Rattle.sq_base.specs.Causes.{raised}

@@ -4,7 +4,7 @@ use Rattle.std.specs.Prelude.{MatchOption, slice_get}
 use Rattle.sq_value.specs.declared.value.Value.{Value}
 use Rattle.sq_value.specs.declared.value.Value.TheVariants.{Int}
 use Rattle.sq_algebra.specs.Operators.{IsNonNegative}
-use Rattle.sq_algebra.specs.ZSet.{plus, weight}
+use Rattle.sq_algebra.specs.ZSet.{weight}
 use Rattle.sq_expr.specs.Bigint.{first_not_bigint}
 use Rattle.sq_expr.specs.declared.expr.Func.{Func}
 use Rattle.sq_expr.specs.declared.expr.Func.TheVariants.{CountAll, Count, Sum, Min, Max}

@@ -1,4 +1,4 @@
-use Rattle.std.proofs.Common.{rules, ◌≡◌, ◌∙◌, ◌++◌, true, false, List, ℤ, Some, None, Err, refl, sym, ap, to_z, of_z}
+use Rattle.std.proofs.Common.{rules, ◌≡◌, ◌∙◌, ◌++◌, true, false, ℤ, Some, None, Err, refl, sym, ap, to_z, of_z}
 use mir.Syntax.{w128}
 use Rattle.sq_algebra.specs.ZSet.{weight}
 use Rattle.sq_ops.specs.declared.fault.OpFault.TheVariants.{Value}

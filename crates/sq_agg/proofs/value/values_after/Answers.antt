@@ -1,11 +1,10 @@
-use Rattle.std.proofs.Common.{rules, ◌≡◌, ◌∙◌, ◌<◌, ◌≤◌, ◌+◌, length, Err, ap, arith}
+use Rattle.std.proofs.Common.{rules, ◌≡◌, ◌∙◌, ◌<◌, ◌≤◌, ◌+◌, length, Err, arith}
 use Rattle.std.proofs.lemmas.Option.{slice_get-get_or}
 use Rattle.std.proofs.lemmas.Result.{err_from_is_err_and}
 use Rattle.sq_algebra.specs.ZSet.{entries}
 use Rattle.sq_expr.specs.declared.expr.Func.TheVariants.{CountAll}
 use Rattle.sq_ops.specs.declared.fault.OpFault.TheVariants.{Value}
-use Rattle.sq_agg.specs.Stepping.{calls_cost}
-use Rattle.sq_agg.proofs.Values.{all_values, calls_few, none_outside, one_cost, one_value, sum_outside}
+use Rattle.sq_agg.proofs.Values.{all_values, none_outside, one_cost, one_value, sum_outside}
 use Rattle.sq_agg.proofs.value.values_after.Goals as goal
 
 pub returns-in_err-value-clause-outside : goal.returns-in_err-value-clause-outside
