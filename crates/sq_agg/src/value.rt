@@ -67,12 +67,8 @@ fn value_of_call<L>(
         Func::CountAll => Ok(Value::Int(acc.rows())),
         Func::Count => Ok(Value::Int(acc.count(number))),
         Func::Sum => Ok(sum_after(acc, number)?),
-        Func::Min => Ok(least_after(
-            alloc, key, number, call.arg, ordered, changed, steps,
-        )?),
-        Func::Max => Ok(greatest_after(
-            alloc, key, number, call.arg, ordered, changed, steps,
-        )?),
+        Func::Min => Ok(least_after(alloc, key, number, call.arg, ordered, changed, steps)?),
+        Func::Max => Ok(greatest_after(alloc, key, number, call.arg, ordered, changed, steps)?),
     }
 }
 

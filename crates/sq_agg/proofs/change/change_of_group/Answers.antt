@@ -14,9 +14,11 @@ pub returns-in_err-after-clause-outside : goal.returns-in_err-after-clause-outsi
 returns-in_err-after-clause-outside g c group sum e =
     let (fault, is, same) = err_from_is_err_and c.from_residual-in_err-after.result c.from_residual-in_err-after.ensures.1 in
     let failed : c.row_after.result ≡ Err (Sum group sum) = cc (c.in_err-after.was, is, same, e) in
-    let out = c.row_after.ensures.outside group sum failed in
-    (out.0, λ s. told c.args.spec.now c.args.accs.now c.args.ordered.now c.args.key.now c.args.changed.now s (λ z. FirstSum c.args.spec.now.calls z sum)
-    c.in_ok-whole.whole c.in_ok-acc.acc c.in_ok-whole.ensures.ok c.in_ok-acc.ensures.ok out.1)
+    let out = c.row_after.ensures.outside group sum failed in (
+      out.0,
+      λ s. told c.args.spec.now c.args.accs.now c.args.ordered.now c.args.key.now c.args.changed.now s (λ z. FirstSum c.args.spec.now.calls z sum)
+          c.in_ok-whole.whole c.in_ok-acc.acc c.in_ok-whole.ensures.ok c.in_ok-acc.ensures.ok out.1,
+    )
 
 pub returns-clause-after : goal.returns-clause-after
 returns-clause-after g c s =

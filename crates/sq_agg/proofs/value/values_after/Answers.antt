@@ -21,8 +21,7 @@ loop-i-preserved g c =
     let low : c.loop-i.i < length c.as_slice.result.now = search rules in
     let more = one_cost c.loop-i.i (1 + length (entries c.args.changed.now)) in
     let before = c.loop-i.invariant.1 in
-    let now = c.value_of_call.ensures.count in
-    (
+    let now = c.value_of_call.ensures.count in (
       λ a. one_value c.args.spec.now c.args.ordered.now c.args.key.now c.args.changed.now c.args.acc.now a c.as_slice.result.now c.as_slice.ensures c.loop-i.i
           _ (slice_get-get_or c.as_slice.result.now c.loop-i.i (record { func = CountAll; arg = 0 }) low)
           c.loop-i.values.items c.push.new.self.items c.in_ok-value.value (c.loop-i.invariant.0 a) c.in_ok-push.ensures.items c.in_ok-value.ensures.ok c.in_ok-value.ensures.in_range,
