@@ -7,3 +7,8 @@ pub mod FromSteps
 pub mod GroupSteps
 pub mod FromLoop
 pub mod BlockSteps
+pub mod Apart
+pub mod Planning
+pub mod BlockPlans
+pub mod ChainPlans
+pub mod QueryLoops

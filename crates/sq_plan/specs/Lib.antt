@@ -1,3 +1,4 @@
 pub mod Drafts
 pub mod Steps
 pub mod Blocks
+pub mod Plans

@@ -9,5 +9,6 @@ mod groups;
 mod keys;
 mod left;
 mod members;
+mod query;
 mod sets;
 mod steps;
