@@ -10,7 +10,6 @@ mod group;
 mod join;
 mod kept;
 mod listing;
-mod members;
 mod query;
 mod refusal;
 mod sets;
