@@ -8,7 +8,7 @@ use Rattle.sq_expr.specs.declared.expr.Kind.{Kind}
 use Rattle.sq_ops.specs.JoinLaws.{SuitsPairing}
 use Rattle.sq_ops.specs.Aggregates.{SuitsSpec}
 use Rattle.sq_circuit.specs.Circuits.{kinds_at, kinds_in, owner_at, owner_in}
-use Rattle.sq_circuit.specs.Gives.{ColumnKinds, GivesKinds, GroupKinds, ItemKinds, PaddedKinds}
+use Rattle.sq_circuit.specs.Gives.{AreWithin, ColumnsWithin, GivesKinds, GroupKinds, ItemKinds, PaddedKinds}
 use Rattle.sq_circuit.specs.Invariant.{HasWidth, IsBetween, IsEarlier, IsInOrder, IsOwned, IsOwnedBelow, IsOwner, TakesKinds, is_table, is_view, table_count, width_of}
 use Rattle.sq_circuit.specs.LinearOps.{SuitsOp}
 use Rattle.sq_circuit.specs.Nodes.{Source, Nowhere, Outer, Inner, left_source, right_source}
@@ -98,11 +98,11 @@ module _ (i : ℕ) (f g : ℕ → List Kind) (same : (j : ℕ) → j < i → f j
   gives_same (Linear j (Keep op)) own l r h = subst (λ ks. own ≡ ks) (same j l) h
   gives_same (Linear j (Project op)) own l r h = subst (λ ks. ItemKinds ks op.items own) (same j l) h
   gives_same (Linear j (Pad op)) own l r h = subst (λ ks. PaddedKinds ks op.nulls own) (same j l) h
-  gives_same (Join a b op) own l r h = both (λ x y. ColumnKinds (x ++ y) op.items own) a b l r h
+  gives_same (Join a b op) own l r h = both (λ x y. ColumnsWithin (x ++ y) op.items own) a b l r h
   gives_same (Distinct j) own l r h = subst (λ ks. own ≡ ks) (same j l) h
   gives_same (Aggregate j spec) own l r h = subst (λ ks. GroupKinds ks spec own) (same j l) h
-  gives_same (Plus a b) own l r h = (subst (λ ks. own ≡ ks) (same a l) h.0, subst (λ ks. own ≡ ks) (same b r) h.1)
-  gives_same (Minus a b) own l r h = (subst (λ ks. own ≡ ks) (same a l) h.0, subst (λ ks. own ≡ ks) (same b r) h.1)
+  gives_same (Plus a b) own l r h = (subst (λ ks. AreWithin ks own) (same a l) h.0, subst (λ ks. AreWithin ks own) (same b r) h.1)
+  gives_same (Minus a b) own l r h = (subst (λ ks. AreWithin ks own) (same a l) h.0, subst (λ ks. AreWithin ks own) (same b r) h.1)
   gives_same (View j v) own l r h = subst (λ ks. own ≡ ks) (same j l) h
 
 -- ---- order

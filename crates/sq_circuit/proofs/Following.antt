@@ -15,7 +15,7 @@ use Rattle.sq_expr.specs.declared.cond.Cond.{Cond}
 use Rattle.sq_expr.specs.declared.expr.Expr.{Expr}
 use Rattle.sq_expr.specs.declared.expr.Kind.{Kind}
 use Rattle.sq_expr.proofs.Equations.{num-Column}
-use Rattle.sq_expr.proofs.Rows.{kind_of_column, kinds_joined, kinds_of_nulls, number_is_bigint, text_is_text, value_of_sort}
+use Rattle.sq_expr.proofs.Rows.{integers_are_bigints, kind_of_column, kinds_joined, kinds_of_nulls, number_is_bigint, text_is_text, value_of_sort}
 use Rattle.sq_algebra.specs.Operators.{image, pairs_where, where_same}
 use Rattle.sq_algebra.specs.ZSet.{entries}
 use Rattle.sq_algebra.proofs.EachLemmas.{each-image, each-product}
@@ -26,10 +26,25 @@ use Rattle.sq_ops.specs.declared.bilinear.Pairing.{Pairing}
 use Rattle.sq_ops.proofs.Ranges.{items_stored, none_of_each}
 use Rattle.sq_circuit.specs.Invariant.{HasKinds}
 use Rattle.sq_circuit.specs.Nodes.{Rows, paired}
-use Rattle.sq_circuit.specs.Gives.{ColumnKinds, ItemKind, ItemKinds, OfColumn, OfNumber, OfText, PaddedKinds}
+use Rattle.sq_circuit.specs.Gives.{AreWithin, ColumnKinds, ColumnsWithin, IsWithin, ItemKind, ItemKinds, OfColumn, OfNumber, OfText, PaddedKinds, Same, Widened}
 
 abbrev OfKinds : List Kind → List Value → Type 0
 OfKinds kinds row = AreOfKinds row kinds
+
+-- ---- wider kinds
+within_kind : (k l : Kind) (x : Value) → IsWithin k l → IsOfKind x k → IsOfKind x l
+within_kind k l x (Same is) h = subst (λ m. IsOfKind x m) is h
+within_kind k l x (Widened is wide) h = subst (λ m. IsOfKind x m) (sym wide) (integers_are_bigints x (subst (λ m. IsOfKind x m) is h))
+
+within_kinds : (ks ls : List Kind) (row : List Value) → AreWithin ks ls → AreOfKinds row ks → AreOfKinds row ls
+within_kinds [] [] row w h = h
+within_kinds [] (l ∷ ls) row w h = absurd w
+within_kinds (k ∷ ks) [] row w h = absurd w
+within_kinds (k ∷ ks) (l ∷ ls) [] w h = absurd h
+within_kinds (k ∷ ks) (l ∷ ls) (x ∷ row) w h = (within_kind k l x w.0 h.0, within_kinds ks ls row w.1 h.1)
+
+pub wider_follows : (ks ls : List Kind) (z : Rows) → AreWithin ks ls → HasKinds ks z → HasKinds ls z
+wider_follows ks ls z w h i d low = within_kinds ks ls (get_or (entries z) i d).0 w (h i d low)
 
 -- ---- columns
 pub columns_kinds : (kinds : List Kind) (row : List Value) → AreOfKinds row kinds → (ns : List ℕ) (ks : List Kind) → ColumnKinds kinds ns ks → AreOfKinds (columns_of ns row) ks
@@ -94,6 +109,9 @@ module _ (op : Pairing) (left right own : List Kind) (g : ColumnKinds (left ++ r
       (λ v e. subst (OfKinds own) (cond_some (holds op.keep (row ++ other)) (columns_of op.items (row ++ other)) v e).1
       (columns_kinds (left ++ right) (row ++ other) (kinds_joined row other left right a b) op.items own g))
 
-  pub join_follows : (y z : Rows) → HasKinds left y → HasKinds right z → HasKinds own (paired op y z)
-  join_follows y z h k =
+  exact_follows : (y z : Rows) → HasKinds left y → HasKinds right z → HasKinds own (paired op y z)
+  exact_follows y z h k =
       each-product (OfKinds left) (OfKinds right) (OfKinds own) row_cmp row_cmp-total (pairs_where row_cmp (key_in op.left op.nulls_match) (key_in op.right op.nulls_match) (chosen op.keep op.items)) pair_kinds y z h k
+
+pub join_follows : (op : Pairing) (left right own : List Kind) → ColumnsWithin (left ++ right) op.items own → (y z : Rows) → HasKinds left y → HasKinds right z → HasKinds own (paired op y z)
+join_follows op left right own g y z h k = wider_follows g.exact own (paired op y z) g.within (exact_follows op left right g.exact g.of_columns y z h k)

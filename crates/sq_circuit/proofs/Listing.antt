@@ -23,7 +23,7 @@ use Rattle.sq_ops.specs.Aggregates.{aggregated}
 use Rattle.sq_ops.specs.declared.bilinear.Pairing.{Pairing}
 use Rattle.sq_circuit.specs.Circuits.{has_fault, has_number_outside, is_sound, kinds_at, kinds_in, lists_too_many, table_at, whole, whole_from}
 use Rattle.sq_circuit.specs.Gives.{GivesKinds}
-use Rattle.sq_circuit.specs.Invariant.{HasKinds, IsCircuit, IsEarlier, IsGood, IsListed, IsNear, IsPart, IsSoundAt, NeedsListed}
+use Rattle.sq_circuit.specs.Invariant.{AreEarlier, HasKinds, IsCircuit, IsEarlier, IsGood, IsListed, IsNear, IsPart, IsSoundAt, NeedsListed}
 use Rattle.sq_circuit.specs.Listed.{AsksLists, HasList, IsListedPart, IsShort, is_loose, is_loose_in}
 use Rattle.sq_circuit.specs.Nodes.{Rows, Source, left_source, operator, paired, right_source}
 use Rattle.sq_circuit.specs.Verdicts.{source_sound}
@@ -34,7 +34,7 @@ use Rattle.sq_circuit.specs.declared.node.Node.TheVariants.{Table, Linear, Join,
 use Rattle.sq_circuit.proofs.Bounding.{listed_few}
 use Rattle.sq_circuit.proofs.Evaluating.{fault_at, sound_at, whole_at}
 use Rattle.sq_circuit.proofs.Fewer.{aggregated_listed, distinct_listed, image_listed, kept_few}
-use Rattle.sq_circuit.proofs.Following.{join_follows, keep_follows, pad_follows, project_follows}
+use Rattle.sq_circuit.proofs.Following.{join_follows, keep_follows, pad_follows, project_follows, wider_follows}
 use Rattle.sq_circuit.proofs.Grouped.{aggregate_follows}
 use Rattle.sq_circuit.proofs.Owning.{reads_earlier}
 
@@ -107,7 +107,7 @@ either_way p z fine above few = step p.place refl
     step true e = tested p z e fine above
     step false e = record { above = above; few = few e }
 
-module _ (c : List Part) (parts : (i : ℕ) (p : Part) → slice_get c i ≡ Some p → IsPart c i p) (lists : (i : ℕ) (p : Part) → slice_get c i ≡ Some p → IsListedPart c i p) where
+module _ (c : List Part) (order : AreEarlier c) (lists : (i : ℕ) (p : Part) → slice_get c i ≡ Some p → IsListedPart c i p) where
   module _ (tables : List Rows) (good : IsGood c tables) where
     abbrev HoldsAt : ℕ → Type 0
     HoldsAt i = (p : Part) → slice_get c i ≡ Some p → is_sound c tables i ≡ true → Holds p p.node (whole c tables i)
@@ -179,7 +179,7 @@ module _ (c : List Part) (parts : (i : ℕ) (p : Part) → slice_get c i ≡ Som
           let right = list_of b k.right k.right_sound k.asks.1 in
           record {
             kinds = each-plus (λ row. AreOfKinds row p.kinds) row_cmp row_cmp-total (whole c tables a) (whole c tables b)
-                (own_kinds (kinds_at c a) (whole c tables a) k.gives.0 (kinds_of a k.left k.left_sound)) (own_kinds (kinds_at c b) (whole c tables b) k.gives.1 (kinds_of b k.right k.right_sound));
+                (wider_follows (kinds_at c a) p.kinds (whole c tables a) k.gives.0 (kinds_of a k.left k.left_sound)) (wider_follows (kinds_at c b) p.kinds (whole c tables b) k.gives.1 (kinds_of b k.right k.right_sound));
             few = let l = listed_few (whole c tables a) left in let r = listed_few (whole c tables b) right in let both = mass-plus (whole c tables a) (whole c tables b) in omega arith;
             listed = λ e. tested p (plus (whole c tables a) (whole c tables b)) (firm e) k.fine (nonnegative-plus row_cmp row_cmp-total (whole c tables a) (whole c tables b) left.above right.above);
           }
@@ -190,7 +190,7 @@ module _ (c : List Part) (parts : (i : ℕ) (p : Part) → slice_get c i ≡ Som
           let right = list_of b k.right k.right_sound k.asks.1 in
           record {
             kinds = each-minus (λ row. AreOfKinds row p.kinds) row_cmp row_cmp-total (whole c tables a) (whole c tables b)
-                (own_kinds (kinds_at c a) (whole c tables a) k.gives.0 (kinds_of a k.left k.left_sound)) (own_kinds (kinds_at c b) (whole c tables b) k.gives.1 (kinds_of b k.right k.right_sound));
+                (wider_follows (kinds_at c a) p.kinds (whole c tables a) k.gives.0 (kinds_of a k.left k.left_sound)) (wider_follows (kinds_at c b) p.kinds (whole c tables b) k.gives.1 (kinds_of b k.right k.right_sound));
             few = let l = listed_few (whole c tables a) left in let r = listed_few (whole c tables b) right in let both = mass-minus (whole c tables a) (whole c tables b) in omega arith;
             listed = λ e. tested p (minus (whole c tables a) (whole c tables b)) (firm e) k.fine (k.short (firm e));
           }
@@ -248,24 +248,24 @@ module _ (c : List Part) (parts : (i : ℕ) (p : Part) → slice_get c i ≡ Som
       parts_sound : (not (has_fault c tables i) ≡ true) × ((source_sound c tables (left_source p.node) && source_sound c tables (right_source p.node)) ≡ true)
       parts_sound =
           and_parts (not (has_fault c tables i)) (source_sound c tables (left_source p.node) && source_sound c tables (right_source p.node))
-          (sym (sound_at c (reads_earlier c parts) tables i p at) ∙ sound)
+          (sym (sound_at c order tables i p at) ∙ sound)
 
       passed : (p.place && lists_too_many (whole c tables i)) || has_number_outside p.node (from (left_source p.node)) ≡ false
-      passed = sym (fault_at c (reads_earlier c parts) tables i p at) ∙ not_true (has_fault c tables i) parts_sound.0
+      passed = sym (fault_at c order tables i p at) ∙ not_true (has_fault c tables i) parts_sound.0
 
       both_sound : (source_sound c tables (left_source p.node) ≡ true) × (source_sound c tables (right_source p.node) ≡ true)
       both_sound = and_parts (source_sound c tables (left_source p.node)) (source_sound c tables (right_source p.node)) parts_sound.1
 
       value : whole c tables i ≡ made p.node
-      value = whole_at c (reads_earlier c parts) tables i p at
+      value = whole_at c order tables i p at
 
       known_here : Known p.node
       known_here =
           let both = neither (p.place && lists_too_many (whole c tables i)) (has_number_outside p.node (from (left_source p.node))) passed in
           record {
             is = refl;
-            left = (parts i p at).left_earlier;
-            right = (parts i p at).right_earlier;
+            left = (order i p at).0;
+            right = (order i p at).1;
             left_sound = both_sound.0;
             right_sound = both_sound.1;
             fine = sym (ap (λ z. p.place && lists_too_many z) value) ∙ both.0;
@@ -365,8 +365,8 @@ module _ (c : List Part) (parts : (i : ℕ) (p : Part) → slice_get c i ≡ Som
 
       both_here : is_loose p.node p.place ≡ true → Both p.node
       both_here loose = record {
-        left = (parts i p at).left_earlier;
-        right = (parts i p at).right_earlier;
+        left = (order i p at).0;
+        right = (order i p at).1;
         left_before = (both_sound old before.good i p at before.sound (λ j low. holds old before.good j)).0;
         left_after = (both_sound new after.good i p at after.sound (λ j low. holds new after.good j)).0;
         right_before = (both_sound old before.good i p at before.sound (λ j low. holds old before.good j)).1;
@@ -380,8 +380,8 @@ module _ (c : List Part) (parts : (i : ℕ) (p : Part) → slice_get c i ≡ Som
         where
           step : (b : Bool) → is_loose p.node p.place ≡ b → IsNear (whole c old i) (whole c new i)
           step true e =
-              subst (λ y. IsNear y (whole c new i)) (sym (whole_at c (reads_earlier c parts) old i p at))
-              (subst (λ z. IsNear (made_of old p.node) z) (sym (whole_at c (reads_earlier c parts) new i p at)) (near p.node (both_here e)))
+              subst (λ y. IsNear y (whole c new i)) (sym (whole_at c order old i p at))
+              (subst (λ z. IsNear (made_of old p.node) z) (sym (whole_at c order new i p at)) (near p.node (both_here e)))
           step false e = listed_near (whole c old i) (whole c new i) ((holds old before.good i p at before.sound).listed e) ((holds new after.good i p at after.sound).listed e)
 
     near_below : (n i : ℕ) → i < n → NearAt i
@@ -396,12 +396,12 @@ listed_circuit c few parts lists = record {
   few = few;
   parts = parts;
   bounded = λ tables i p at s.
-      let held = holds c parts lists tables s.good i p at s.sound in
+      let held = holds c (reads_earlier c parts) lists tables s.good i p at s.sound in
       record {
         of_kinds = held.kinds;
-        place = λ e. held.listed (place_firm c parts lists p.node p.place e);
-        needed = λ k q there needs. listed_at c parts lists i p at (asked c parts lists q.node q.place i (lists k q there).asks needs) tables s;
+        place = λ e. held.listed (place_firm c (reads_earlier c parts) lists p.node p.place e);
+        needed = λ k q there needs. listed_at c (reads_earlier c parts) lists i p at (asked c (reads_earlier c parts) lists q.node q.place i (lists k q there).asks needs) tables s;
         few = λ _. held.few;
       };
-  steady = λ old new i p at _ before after. steady_at c parts lists old new i p at before after;
+  steady = λ old new i p at _ before after. steady_at c (reads_earlier c parts) lists old new i p at before after;
 }

@@ -11,8 +11,8 @@ use Rattle.sq_ops.specs.Wholes.{has_no_values}
 use Rattle.sq_ops.specs.declared.aggregate.Call.{Call}
 use Rattle.sq_circuit.specs.Begun.{AreTables, IsBegun, IsNext, IsTablePart, ReadsThese, is_faulty, is_fine, made_of}
 use Rattle.sq_circuit.specs.Circuits.{are_sound, fault_of, has_fault, is_sound, kinds_at, owner_in, whole, whole_from}
-use Rattle.sq_circuit.specs.Gives.{CallKinds, ColumnKinds, GivesKinds, ItemKinds}
-use Rattle.sq_circuit.specs.Invariant.{AreEarlier, HasWidth, IsEarlier, IsGood, IsInOrder, IsListed, IsOwned, IsOwnedBelow, IsPartOf, IsSoundAt, TakesKinds, is_table, table_count}
+use Rattle.sq_circuit.specs.Gives.{AreWithin, CallKinds, ColumnKinds, GivesKinds, ItemKinds}
+use Rattle.sq_circuit.specs.Invariant.{AreEarlier, HasKinds, HasWidth, IsEarlier, IsGood, IsInOrder, IsListed, IsOwned, IsOwnedBelow, IsPartOf, IsSoundAt, TakesKinds, is_table, table_count}
 use Rattle.sq_circuit.specs.Listed.{AsksLists, HasList, IsListedPart, IsShort, is_loose_in}
 use Rattle.sq_circuit.specs.Nodes.{Rows, Source, Nowhere, Outer, Inner, left_source, operator, right_source}
 use Rattle.sq_circuit.specs.Verdicts.{source_sound}
@@ -24,6 +24,7 @@ use Rattle.sq_circuit.proofs.Alongside.{got_front, got_next}
 use Rattle.sq_circuit.proofs.Appending.{count_all, count_more, count_most, front_or_last, gives_same, kinds_more, order_between, order_more, owned_by, owned_more, owner_more, owner_stays, takes_same, width_same}
 use Rattle.sq_circuit.proofs.Evaluating.{fault_at, sound_at, whole_at}
 use Rattle.sq_circuit.proofs.Growing.{sound_more, whole_more}
+use Rattle.sq_circuit.proofs.Listing.{holds, listed_at}
 
 -- ---- a node that gives its kinds has its width
 items_many : (kinds : List Kind) (es : List Expr) (ks : List Kind) → ItemKinds kinds es ks → length ks ≡ length es
@@ -37,6 +38,12 @@ columns_many kinds [] [] g = refl
 columns_many kinds [] (k ∷ ks) g = absurd g
 columns_many kinds (n ∷ ns) [] g = absurd g
 columns_many kinds (n ∷ ns) (k ∷ ks) g = ap suc (columns_many kinds ns ks g.1)
+
+within_many : (ks ls : List Kind) → AreWithin ks ls → length ls ≡ length ks
+within_many [] [] w = refl
+within_many [] (l ∷ ls) w = absurd w
+within_many (k ∷ ks) [] w = absurd w
+within_many (k ∷ ks) (l ∷ ls) w = ap suc (within_many ks ls w.1)
 
 calls_many : (kinds : List Kind) (calls : List Call) (ks : List Kind) → CallKinds kinds calls ks → length ks ≡ length calls
 calls_many kinds [] [] g = refl
@@ -59,7 +66,7 @@ gives_width (Table t) f own takes g = tt
 gives_width (Linear j (Keep op)) f own takes g = ap length g
 gives_width (Linear j (Project op)) f own takes g = items_many (f j) op.items own g
 gives_width (Linear j (Pad op)) f own takes g = let is = ap length g.is in let both = length-append (f j) g.more in let many = g.many in omega arith
-gives_width (Join l r op) f own takes g = columns_many (f l ++ f r) op.items own g
+gives_width (Join l r op) f own takes g = within_many g.exact own g.within ∙ columns_many (f l ++ f r) op.items g.exact g.of_columns
 gives_width (Distinct j) f own takes g = ap length g
 gives_width (Aggregate j spec) f own takes g =
     let is = ap length g.is in
@@ -68,8 +75,8 @@ gives_width (Aggregate j spec) f own takes g =
     let values = calls_many (f j) spec.calls g.values g.of_values in
     let group = grouped_many spec.global spec.group _ takes in
     omega arith
-gives_width (Plus l r) f own takes g = (ap length g.0, ap length g.1)
-gives_width (Minus l r) f own takes g = (ap length g.0, ap length g.1)
+gives_width (Plus l r) f own takes g = (within_many (f l) own g.0, within_many (f r) own g.1)
+gives_width (Minus l r) f own takes g = (within_many (f l) own g.0, within_many (f r) own g.1)
 gives_width (View j v) f own takes g = ap length g
 
 -- ---- tables
@@ -157,6 +164,14 @@ module _ (c more : List Part) (earlier : AreEarlier c) (no_tables : table_count 
 
 pub begun_earlier : (views now : ℕ) (c : List Part) → IsBegun views now c → AreEarlier c
 begun_earlier views now c b i p e = ((b.parts i p e).left_earlier, (b.parts i p e).right_earlier)
+
+-- ---- rows of sound nodes
+module _ (views now : ℕ) (c : List Part) (b : IsBegun views now c) (tables : List Rows) (i : ℕ) (p : Part) (at : slice_get c i ≡ Some p) (s : IsSoundAt c tables i) where
+  pub begun_kinds : HasKinds p.kinds (whole c tables i)
+  begun_kinds = (holds c (begun_earlier views now c b) b.lists tables s.good i p at s.sound).kinds
+
+  pub begun_list : HasList c i → IsListed (whole c tables i)
+  begun_list h = listed_at c (begun_earlier views now c b) b.lists i p at h tables s
 
 -- ---- a part behind others
 module _ (c more : List Part) (tables : List Rows) where

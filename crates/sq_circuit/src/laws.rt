@@ -8,7 +8,7 @@ ghost use Rattle.sq_zset.specs.Range.{IsInRange};
 ghost use Rattle.sq_circuit.specs.Along.{least_below, lesser};
 ghost use Rattle.sq_circuit.specs.Begun.{AreTables, IsBegun, IsEnded, IsGrown, IsNext, ReadsThese, is_faulty, is_fine, made_of};
 ghost use Rattle.sq_circuit.specs.Circuits.{has_fault, is_sound, owner_at, verdict, whole};
-ghost use Rattle.sq_circuit.specs.Invariant.{AreEarlier, HasKinds, IsCircuit, IsGood, IsPart, IsSoundAt, is_table, table_and_view, view_count};
+ghost use Rattle.sq_circuit.specs.Invariant.{AreEarlier, HasKinds, IsCircuit, IsGood, IsListed, IsPart, IsSoundAt, is_table, table_and_view, view_count};
 ghost use Rattle.sq_circuit.specs.Listed.{HasList, IsListedPart};
 ghost use Rattle.sq_circuit.specs.NodeLaws.{IsLawful};
 ghost use Rattle.sq_circuit.specs.Nodes.{Rows, left_source, right_source};
@@ -102,6 +102,12 @@ pub fn circuits_are_made_node_by_node()
     ensures grown { (views now : ℕ) (c : List Known) (p : Known) → IsBegun views now c → IsNext views now c p → IsBegun views now (c ++ p ∷ []) }
     ensures later { (views now later : ℕ) (c : List Known) → IsBegun views now c → now ≤ later → IsBegun views later c }
     ensures earlier { (views now : ℕ) (c : List Known) → IsBegun views now c → AreEarlier c }
+{}
+
+/// In a circuit in the making the rows of a sound node over good tables are of its kinds, and those of a list if it has one.
+pub fn circuits_in_the_making_are_bounded()
+    ensures kinds { (views now : ℕ) (c : List Known) → IsBegun views now c → (tables : List Rows) (i : ℕ) (p : Known) → slice_get c i ≡ Some p → IsSoundAt c tables i → HasKinds p.kinds (whole c tables i) }
+    ensures list { (views now : ℕ) (c : List Known) → IsBegun views now c → (tables : List Rows) (i : ℕ) (p : Known) → slice_get c i ≡ Some p → IsSoundAt c tables i → HasList c i → IsListed (whole c tables i) }
 {}
 
 /// In a circuit in the making an earlier verdict stays, and a fault of a new node is the view's that is being made.
