@@ -17,3 +17,5 @@ pub mod Suiting
 pub mod GroupSuiting
 pub mod Skipping
 pub mod Counting
+pub mod Smallness
+pub mod SmallPrograms

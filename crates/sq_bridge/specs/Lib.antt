@@ -7,3 +7,4 @@ pub mod Queries
 pub mod Views
 pub mod Meaning
 pub mod Beginnings
+pub mod Small
