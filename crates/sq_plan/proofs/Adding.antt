@@ -1,19 +1,25 @@
--- What one more part brings, and two steps as one.
-use Rattle.std.proofs.Common.{◌≡◌, ℕ, zero, suc, ◌<◌, ◌≤◌, ◌+◌, Bool, true, ◌&&◌, ◌||◌, List, [], ◌∷◌, ◌++◌, length, Some, refl, sym, ap, ap₂, subst, ◌∙◌, arith}
+-- What one more part brings, what stays, and two steps as one.
+use Rattle.std.proofs.Common.{◌≡◌, ℕ, zero, suc, ◌<◌, ◌+◌, Bool, true, false, ◌&&◌, ◌||◌, cond, List, [], ◌∷◌, ◌++◌, length, Some, refl, sym, ap, ap₂, subst, ◌∙◌, arith}
 use Rattle.std.specs.Prelude.{slice_get, ◌==◌}
 use Rattle.std.proofs.lemmas.List.{append_assoc, length-append}
 use Rattle.std.proofs.Math.Bool.{or_assoc}
 use Rattle.std.proofs.lemmas.Bool.Decides.{nat_tests}
+use Rattle.std.proofs.lemmas.Option.{slice_get_within}
 use Rattle.sq_expr.specs.declared.expr.Kind.{Kind}
 use Rattle.sq_circuit.specs.Circuits.{fault_of, has_fault, kinds_at, kinds_in, owner_at, owner_in, whole, whole_from}
-use Rattle.sq_circuit.specs.Invariant.{AreEarlier, IsEarlier}
+use Rattle.sq_circuit.specs.Begun as making
+use Rattle.sq_circuit.specs.Begun.{IsBegun}
+use Rattle.sq_circuit.specs.Invariant.{AreEarlier, IsEarlier, is_table, table_count}
+use Rattle.sq_circuit.specs.Listed.{HasList, is_loose, is_loose_in}
 use Rattle.sq_circuit.specs.Nodes.{Rows, Source, Nowhere, Outer, Inner, left_source, operator, right_source}
 use Rattle.sq_circuit.specs.declared.circuit.Part.{Part}
 use Rattle.sq_plan.specs.declared.draft.Draft.{Draft}
 use Rattle.sq_circuit.proofs.Alongside.{got_front}
+use Rattle.sq_circuit.proofs.Appending.{count_more}
 use Rattle.sq_circuit.proofs.Evaluating.{fault_at, whole_at}
 use Rattle.sq_circuit.proofs.Growing.{fault_more, whole_more}
-use Rattle.sq_plan.specs.Drafts.{Adds, IsDraft, IsNext, IsNode, blames, blames_view, faulty_behind, is_of, kinds_of, some_below, worth_behind, worth_of}
+use Rattle.sq_circuit.proofs.Making.{begun_earlier, grown, list_more}
+use Rattle.sq_plan.specs.Drafts.{Adds, Appends, IsDraft, IsNext, IsNode, IsThere, blames, blames_view, faulty_behind, is_of, kinds_of, some_below, worth_behind, worth_of}
 
 some_same : (f g : ℕ → Bool) (n : ℕ) → ((i : ℕ) → i < n → f i ≡ g i) → some_below f n ≡ some_below g n
 some_same f g zero h = refl
@@ -42,18 +48,25 @@ longer : (c : List Part) (p : Part) → length (c ++ p ∷ []) ≡ suc (length c
 longer [] p = refl
 longer (d ∷ c) p = ap suc (longer c p)
 
-no_later : (n m : ℕ) (s : Source) → n ≤ m → IsEarlier n s → IsEarlier m s
-no_later n m Nowhere le h = tt
-no_later n m (Outer t) le h = tt
-no_later n m (Inner j) le h = omega arith
-
 pub or_same : (a b c d : Bool) → a ≡ b → c ≡ d → (a || c) ≡ (b || d)
 or_same a b c d e f = ap₂ (λ x y. x || y) e f
 
--- one more part, and what is there of it
-pub record Grown (d e : Draft) (p : Part) : Type 0 where
-  pub view : e.view ≡ d.view
-  pub is : e.parts.items ≡ d.parts.items ++ p ∷ []
+-- ---- a draft reads earlier nodes alone, and so does its front
+pub draft_earlier : (d : Draft) → IsDraft d → AreEarlier d.parts.items
+draft_earlier d h = begun_earlier (suc d.view) d.view d.parts.items (h.begun (suc d.view) (omega arith))
+
+pub front_earlier : (c more : List Part) → AreEarlier (c ++ more) → AreEarlier c
+front_earlier c more h i p e = h i p (got_front c more i (slice_get_within c i p e) ∙ e)
+
+pub no_tables_in : (c more : List Part) → table_count c ≡ 0 → table_count more ≡ 0 → table_count (c ++ more) ≡ 0
+no_tables_in c more l r = let both = count_more (λ p. is_table p.node) c more in omega arith
+
+-- ---- a node of a longer draft
+pub node_more : (d e : Draft) (more : List Part) → e.parts.items ≡ d.parts.items ++ more → table_count more ≡ 0 → IsDraft e → (i : ℕ) → IsNode d i → IsNode e i
+node_more d e more is none draft i n = record {
+  there = subst (λ xs. i < length xs) (sym is) (let h = length-append d.parts.items more in let low = n.there in omega (arith, h, low));
+  list = subst (λ xs. HasList xs i) (sym is) (list_more d.parts.items more (front_earlier d.parts.items more (subst AreEarlier is (draft_earlier e draft))) none i n.there n.list);
+}
 
 module _ (c : List Part) (p : Part) (earlier : AreEarlier c) (left : IsEarlier (length c) (left_source p.node)) (right : IsEarlier (length c) (right_source p.node)) where
   earlier_still : AreEarlier (c ++ p ∷ [])
@@ -93,20 +106,82 @@ module _ (c : List Part) (p : Part) (earlier : AreEarlier c) (left : IsEarlier (
 same_number : (v : ℕ) → (v == v) ≡ true
 same_number v = grind (arith, nat_tests)
 
-pub adds_one : (d e : Draft) (p : Part) (i : ℕ) → IsDraft d → IsNext d p → Grown d e p → i ≡ length d.parts.items → p.owner ≡ Some d.view → Adds 1 d e i p.kinds (worth_behind d p) (faulty_behind d p)
-adds_one d e p i h n g at own = record {
-  view = g.view;
-  more = p ∷ [];
-  is = g.is;
-  few = omega arith;
-  draft = record { earlier = subst AreEarlier (sym g.is) (earlier_still d.parts.items p h.earlier n.left n.right) };
-  low = subst (λ xs. i < length xs) (sym g.is) (subst (λ k. k < length (d.parts.items ++ p ∷ [])) (sym at) (subst (λ k. length d.parts.items < k) (sym (longer d.parts.items p)) (omega arith)));
-  kinds_are = ap₂ (λ xs k. kinds_at xs k) g.is at ∙ ap kinds_in (got_last d.parts.items p);
-  worth = λ tables. ap₂ (λ xs k. whole xs tables k) g.is at ∙ worth_last d.parts.items p h.earlier n.left n.right tables;
-  blame = λ tables. ap₂ (λ xs v. blames_view xs tables v) g.is g.view
-      ∙ blame_last d.parts.items p h.earlier n.left n.right d.view tables
-      ∙ ap (λ b. blames d tables || (b && faulty_behind d p tables)) (ap (is_of d.view) own ∙ same_number d.view);
+-- ---- a part that stands behind a draft
+pub appended : (d e : Draft) (p : Part) (i : ℕ) → IsDraft d → IsNext d p → e.view ≡ d.view → e.parts.items ≡ d.parts.items ++ p ∷ [] → i ≡ length d.parts.items → Appends d e i p
+appended d e p i h n view is at = record {
+  view = view;
+  is = is;
+  at = at;
+  draft = record {
+    begun = λ views low.
+        let known : d.view < views = subst (λ v. v < views) view low in
+        subst (λ v. IsBegun views v e.parts.items) (sym view) (subst (IsBegun views d.view) (sym is) (grown views d.view d.parts.items p (h.begun views known) (n.next views known)));
+  };
 }
+
+module _ (d e : Draft) (p : Part) (i : ℕ) (g : Appends d e i p) where
+  pub appended_part : slice_get e.parts.items i ≡ Some p
+  appended_part = ap₂ slice_get g.is g.at ∙ got_last d.parts.items p
+
+  pub appended_there : IsThere e i
+  appended_there = subst (λ xs. i < length xs) (sym g.is) (subst (λ k. k < length (d.parts.items ++ p ∷ [])) (sym g.at) (subst (λ k. length d.parts.items < k) (sym (longer d.parts.items p)) (omega arith)))
+
+  pub appended_length : length e.parts.items ≡ suc (length d.parts.items)
+  appended_length = ap length g.is ∙ longer d.parts.items p
+
+  -- a node that is not loose has a list
+  pub firm : is_loose p.node p.place ≡ false → HasList e.parts.items i
+  firm fine loose = absurd (let never : true ≡ false = sym loose ∙ ap is_loose_in appended_part ∙ fine in cc)
+
+  module _ (h : IsDraft d) (n : IsNext d p) where
+    next_here : making.IsNext (suc d.view) d.view d.parts.items p
+    next_here = n.next (suc d.view) (omega arith)
+
+    pub appended_worth : (tables : List Rows) → worth_of e i tables ≡ worth_behind d p tables
+    appended_worth tables = ap₂ (λ xs k. whole xs tables k) g.is g.at ∙ worth_last d.parts.items p (draft_earlier d h) next_here.reads.left next_here.reads.right tables
+
+    appended_blame : (tables : List Rows) → blames e tables ≡ (blames d tables || faulty_behind d p tables)
+    appended_blame tables = ap₂ (λ xs v. blames_view xs tables v) g.is g.view
+        ∙ blame_last d.parts.items p (draft_earlier d h) next_here.reads.left next_here.reads.right d.view tables
+        ∙ ap (λ b. blames d tables || (b && faulty_behind d p tables)) (ap (is_of d.view) next_here.owner ∙ same_number d.view)
+
+    pub appended_kinds : kinds_of e i ≡ p.kinds
+    appended_kinds = ap₂ (λ xs k. kinds_at xs k) g.is g.at ∙ ap kinds_in (got_last d.parts.items p)
+
+    no_table_behind : table_count (p ∷ []) ≡ 0
+    no_table_behind = ap (λ t. length (cond t (p ∷ []) [])) next_here.no_table
+
+    -- the part brings its fault; a node from before stays
+    pub adds_beside : (j : ℕ) → IsNode d j → Adds 1 d e j (kinds_of d j) (worth_of d j) (faulty_behind d p)
+    adds_beside j low = record {
+      view = g.view;
+      more = p ∷ [];
+      is = g.is;
+      no_tables = no_table_behind;
+      few = omega arith;
+      draft = g.draft;
+      low = node_more d e (p ∷ []) g.is no_table_behind g.draft j low;
+      kinds_are = ap (λ xs. kinds_at xs j) g.is ∙ ap kinds_in (got_front d.parts.items (p ∷ []) j low.there);
+      worth = λ tables. ap (λ xs. whole xs tables j) g.is ∙ whole_more d.parts.items (p ∷ []) tables j low.there;
+      blame = appended_blame;
+    }
+
+    pub adds_listed : HasList e.parts.items i → Adds 1 d e i p.kinds (worth_behind d p) (faulty_behind d p)
+    adds_listed list = record {
+      view = g.view;
+      more = p ∷ [];
+      is = g.is;
+      no_tables = no_table_behind;
+      few = omega arith;
+      draft = g.draft;
+      low = record { there = appended_there; list = list };
+      kinds_are = appended_kinds;
+      worth = appended_worth;
+      blame = appended_blame;
+    }
+
+    pub adds_one : is_loose p.node p.place ≡ false → Adds 1 d e i p.kinds (worth_behind d p) (faulty_behind d p)
+    adds_one fine = adds_listed (firm fine)
 
 -- ---- two steps as one
 pub adds_then : (n m : ℕ) (c d e : Draft) (i j : ℕ) (ks ls : List Kind) (y z : List Rows → Rows) (f g : List Rows → Bool) →
@@ -115,6 +190,7 @@ adds_then n m c d e i j ks ls y z f g a b = record {
   view = b.view ∙ a.view;
   more = a.more ++ b.more;
   is = b.is ∙ ap (λ xs. xs ++ b.more) a.is ∙ append_assoc c.parts.items a.more b.more;
+  no_tables = no_tables_in a.more b.more a.no_tables b.no_tables;
   few = let h = length-append a.more b.more in omega (arith, h, a.few, b.few);
   draft = b.draft;
   low = b.low;
@@ -130,6 +206,7 @@ adds_as n c e i ks ls y z f g same worth fault a = record {
   view = a.view;
   more = a.more;
   is = a.is;
+  no_tables = a.no_tables;
   few = a.few;
   draft = a.draft;
   low = a.low;
@@ -140,10 +217,10 @@ adds_as n c e i ks ls y z f g same worth fault a = record {
 
 -- ---- what was there before
 pub worth_stays : (n : ℕ) (d e : Draft) (i : ℕ) (ks : List Kind) (z : List Rows → Rows) (f : List Rows → Bool) → Adds n d e i ks z f → (j : ℕ) → IsNode d j → (tables : List Rows) → worth_of e j tables ≡ worth_of d j tables
-worth_stays n d e i ks z f a j low tables = ap (λ xs. whole xs tables j) a.is ∙ whole_more d.parts.items a.more tables j low
+worth_stays n d e i ks z f a j low tables = ap (λ xs. whole xs tables j) a.is ∙ whole_more d.parts.items a.more tables j low.there
 
 pub kinds_stay : (n : ℕ) (d e : Draft) (i : ℕ) (ks : List Kind) (z : List Rows → Rows) (f : List Rows → Bool) → Adds n d e i ks z f → (j : ℕ) → IsNode d j → kinds_of e j ≡ kinds_of d j
-kinds_stay n d e i ks z f a j low = ap (λ xs. kinds_at xs j) a.is ∙ ap kinds_in (got_front d.parts.items a.more j low)
+kinds_stay n d e i ks z f a j low = ap (λ xs. kinds_at xs j) a.is ∙ ap kinds_in (got_front d.parts.items a.more j low.there)
 
 pub stays_node : (n : ℕ) (d e : Draft) (i : ℕ) (ks : List Kind) (z : List Rows → Rows) (f : List Rows → Bool) → Adds n d e i ks z f → (j : ℕ) → IsNode d j → IsNode e j
-stays_node n d e i ks z f a j low = subst (λ xs. j < length xs) (sym a.is) (let h = length-append d.parts.items a.more in omega (arith, h))
+stays_node n d e i ks z f a j low = node_more d e a.more a.is a.no_tables a.draft j low

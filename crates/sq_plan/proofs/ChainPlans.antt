@@ -9,7 +9,6 @@ use Rattle.sq_bridge.specs.Queries.{both_of, chain_node, member_node, query_node
 use Rattle.sq_bridge.proofs.NodeEquations.{member_node-is, node-Chain, node-Intersect}
 use Rattle.sq_circuit.specs.Nodes.{Rows}
 use Rattle.sq_expr.specs.declared.expr.Kind.{Kind}
-use Rattle.sq_expr.specs.Typing.{are_alike, sort_of_kind}
 use Rattle.sq_typed.specs.declared.query.Query.{Query}
 use Rattle.sq_typed.specs.declared.query.Query.TheVariants as query
 use Rattle.sq_typed.specs.declared.query.SetStep.{SetStep}
@@ -24,6 +23,8 @@ use Rattle.sq_plan.specs.Plans.{CanMeet, CanPlan, First, IsNarrow, Itself, Later
 use Rattle.sq_plan.specs.Steps.{Becomes, node_of, set_kinds, set_of}
 use Rattle.sq_plan.specs.declared.draft.Draft.{Draft}
 use Rattle.sq_plan.proofs.Adding.{adds_then}
+use Rattle.sq_plan.proofs.Giving.{matched_widest}
+use Rattle.sq_plan.proofs.Taking.{taken_more}
 use Rattle.sq_plan.proofs.Planning.{Longer, kinds_still, length_is, longer_by, node_still, nodes_still, relation_nodes_still, relations_still, still, tighten}
 use Rattle.sq_plan.proofs.Stepping.{becomes}
 
@@ -44,12 +45,6 @@ fold_more f b (y ∷ xs) x = fold_more f (f b y) xs x
 map_more : {A B : Type 0} (f : A → B) (xs : List A) (x : A) → map f (xs ++ x ∷ []) ≡ map f xs ++ f x ∷ []
 map_more f [] x = refl
 map_more f (y ∷ xs) x = ap (λ ys. f y ∷ ys) (map_more f xs x)
-
-matched_length : (ks ls : List Kind) → are_matched ks ls ≡ true → length ls ≡ length ks
-matched_length [] [] e = refl
-matched_length [] (l ∷ ls) e = absurd (cc e)
-matched_length (k ∷ ks) [] e = absurd (cc e)
-matched_length (k ∷ ks) (l ∷ ls) e = ap suc (matched_length ks ls (and_right (are_alike (Some (sort_of_kind k)) (Some (sort_of_kind l))) (are_matched ks ls) e))
 
 module _ (d : Draft) (nodes : List ℕ) (first : Query) where
   abbrev kss : List (List Kind)
@@ -118,8 +113,8 @@ module _ (d : Draft) (nodes : List ℕ) (first : Query) where
       right_kinds : kinds_of g more ≡ kinds_given kss q
       right_kinds = p.becomes.adds.kinds_are ∙ ap (λ ks. kinds_given ks q) (relations_still d e so_long nodes are)
 
-      pub sides_match : are_matched (kinds_given kss first) (kinds_given kss q) ≡ true → length (kinds_of g more) ≡ length (kinds_of g i)
-      sides_match m = ap length right_kinds ∙ matched_length (kinds_given kss first) (kinds_given kss q) m ∙ sym (ap length left_kinds ∙ kinds_length done)
+      pub sides_match : are_matched (kinds_given kss first) (kinds_given kss q) ≡ true → are_matched (kinds_of g i) (kinds_of g more) ≡ true
+      sides_match m = ap₂ are_matched left_kinds right_kinds ∙ matched_widest (kinds_given kss first) (map (λ (p : Next). kinds_given kss p.1) done) (kinds_given kss q) ∙ m
 
       pub left_narrow : IsNarrow kss first → length (kinds_of g i) < 2 ^ 32
       left_narrow narrow = subst (λ n. n < 2 ^ 32) (sym (ap length left_kinds ∙ kinds_length done)) ((narrow first (Itself first)).given)
@@ -214,11 +209,6 @@ test_at p f (y ∷ ys) zero x e at = subst (λ z. p (f z) ≡ true) (head at) (a
     head h = cc
 test_at p f (y ∷ ys) (suc k) x e at = test_at p f ys k x (and_right (p (f y)) (list_all p (map f ys)) e) at
 
-pub taken_more : {A : Type 0} (xs : List A) (k : ℕ) (x : A) → slice_get xs k ≡ Some x → take (suc k) xs ≡ take k xs ++ x ∷ []
-taken_more [] k x e = absurd (cc e)
-taken_more (y ∷ ys) zero x e = ap (λ z. z ∷ []) cc
-taken_more (y ∷ ys) (suc k) x e = ap (λ zs. y ∷ zs) (taken_more ys k x e)
-
 pub sum_taken : {A : Type 0} (f : A → ℕ) (xs : List A) (k : ℕ) (x : A) → slice_get xs k ≡ Some x → sum (map f (take k xs)) + f x ≤ sum (map f xs)
 sum_taken f [] k x e = absurd (cc e)
 sum_taken f (y ∷ ys) zero x e = let same : f y ≡ f x = ap f cc in omega (arith, same)
@@ -265,7 +255,7 @@ module _ (d : Draft) (nodes : List ℕ) (first : Query) (rest : List SetStep) (c
       pub step_left : IsNode g i
       step_left = left_low d nodes first can.are e (map step_of (take k rest)) i so (set_result step.op) step.query g more p
 
-      pub step_alike : length (kinds_of g more) ≡ length (kinds_of g i)
+      pub step_alike : are_matched (kinds_of g i) (kinds_of g more) ≡ true
       step_alike = sides_match d nodes first can.are e (map step_of (take k rest)) i so (set_result step.op) step.query g more p
           (and_right (kinded kinds_of_all step.query).fits (are_matched (kinds_given kinds_of_all first) (kinds_given kinds_of_all step.query)) step_fits)
 

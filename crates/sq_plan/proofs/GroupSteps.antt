@@ -1,5 +1,5 @@
 -- Groups, items and DISTINCT.
-use Rattle.std.proofs.Common.{◌≡◌, ℕ, suc, ◌+◌, true, false, ◌&&◌, List, [], ◌∷◌, length, map, refl, sym, ap, ap₂, subst, ◌∙◌, arith}
+use Rattle.std.proofs.Common.{◌≡◌, ℕ, ◌+◌, true, false, ◌&&◌, List, map, refl, sym, ap, ap₂, subst, ◌∙◌, arith}
 use Rattle.std.specs.Prelude.{Option, Some, None, is_some}
 use Rattle.std.specs.List.{AllByRecursion}
 use Rattle.std.proofs.lemmas.List.{length-append}
@@ -10,12 +10,12 @@ use Rattle.sq_expr.specs.declared.expr.Kind.{Kind}
 use Rattle.sq_expr.proofs.Kept.{members_suit}
 use Rattle.sq_ops.specs.Aggregates.{SuitsSpec, aggregated, first_sum_outside}
 use Rattle.sq_ops.specs.declared.aggregate.AggSpec.{AggSpec}
-use Rattle.sq_bridge.specs.Groups.{behind, calls_from, group_items, group_spec, item_node, selected_node}
+use Rattle.sq_bridge.specs.Groups.{group_items, group_spec, item_node, selected_node}
 use Rattle.sq_bridge.specs.Nodes.{has_item_outside}
 use Rattle.sq_bridge.specs.Rows.{kept_on_all, projected}
 use Rattle.sq_bridge.proofs.GroupSuiting.{group_items_suit, group_spec_suits}
+use Rattle.sq_circuit.specs.Gives.{GroupKinds, ItemKinds}
 use Rattle.sq_circuit.specs.Nodes.{Rows}
-use Rattle.sq_typed.specs.declared.query.BlockCall.{BlockCall}
 use Rattle.sq_typed.specs.declared.query.Grouping.{Grouping}
 use Rattle.sq_typed.specs.Fit.{grouped_kinds, grouping_fits, may_suit}
 use Rattle.sq_typed.specs.From.{members_of}
@@ -25,12 +25,9 @@ use Rattle.sq_typed.proofs.Tests.{and_right}
 use Rattle.sq_plan.specs.Drafts.{Adds, kinds_of, worth_of}
 use Rattle.sq_plan.specs.Steps.{Becomes, node_of}
 use Rattle.sq_plan.specs.declared.draft.Draft.{Draft}
-use Rattle.sq_plan.proofs.Primitives.{many_mapped, many_numbers, or_false}
+use Rattle.sq_plan.proofs.Giving.{group_kinds, items_kinds}
+use Rattle.sq_plan.proofs.Primitives.{many_mapped, or_false}
 use Rattle.sq_plan.proofs.Stepping.{adds_seq, becomes}
-
-many_calls : (n : ℕ) (calls : List BlockCall) → length (calls_from n calls) ≡ length calls
-many_calls n [] = refl
-many_calls n (c ∷ cs) = ap suc (many_calls (behind n c.arg) cs)
 
 -- the conditions of a clause that may be missing
 pub may_suit_members : (kinds : List Kind) (c : Option Cond) → may_suit kinds c ≡ true → AllByRecursion (SuitsCond kinds) (members_of c)
@@ -40,6 +37,9 @@ may_suit_members kinds (Some c) e = members_suit kinds c ((suits_cond_is kinds c
 module _ (d d1 : Draft) (input : ℕ) (g : Grouping) (fits : grouping_fits (kinds_of d input) g ≡ true) (items : List Expr) (items_are : items ≡ group_items g) (own kinds : List Kind) (seen1 seen2 : List Kind) (is1 : seen1 ≡ kinds_of d input) (is2 : seen2 ≡ kinds_of d input) (own_is : own ≡ map (kind_of seen1) items) (kinds_is : kinds ≡ grouped_kinds seen2 g) where
   pub items_suit : AllByRecursion (Suits (kinds_of d input)) items
   items_suit = subst (AllByRecursion (Suits (kinds_of d input))) (sym items_are) (group_items_suit (kinds_of d input) g fits)
+
+  pub items_give : ItemKinds (kinds_of d input) items own
+  items_give = subst (ItemKinds (kinds_of d input) items) (sym (own_is ∙ (λ j. map (kind_of (is1 j)) items))) (items_kinds (kinds_of d input) items items_suit)
 
   own_kinds : own ≡ map (kind_of (kinds_of d input)) (group_items g)
   own_kinds = own_is ∙ (λ j. map (kind_of (is1 j)) (items_are j))
@@ -51,11 +51,10 @@ module _ (d d1 : Draft) (input : ℕ) (g : Grouping) (fits : grouping_fits (kind
     pub spec_suits : SuitsSpec spec (kinds_of d1 shown)
     spec_suits = subst (λ (s : AggSpec). SuitsSpec s (kinds_of d1 shown)) (sym spec_is) (subst (SuitsSpec (group_spec g)) (sym (h1.kinds_are ∙ own_kinds)) (group_spec_suits (kinds_of d input) g fits))
 
-    pub spec_wide : length kinds ≡ length spec.group + length spec.calls
-    spec_wide =
-        ap length group_kinds_are ∙ length-append (map (λ n. _) g.columns) (map (λ c. _) g.calls)
-        ∙ ap₂ (λ a b. a + b) (many_mapped _ g.columns ∙ sym (many_numbers (length g.columns))) (many_mapped _ g.calls ∙ sym (many_calls (length g.columns) g.calls))
-        ∙ ap (λ (s : AggSpec). length s.group + length s.calls) (sym spec_is)
+    pub spec_gives : GroupKinds (kinds_of d1 shown) spec kinds
+    spec_gives =
+        subst (λ (s : AggSpec). GroupKinds (kinds_of d1 shown) s kinds) (sym spec_is) (subst (λ ks. GroupKinds ks (group_spec g) kinds) (sym (h1.kinds_are ∙ own_kinds))
+        (subst (GroupKinds (map (kind_of (kinds_of d input)) (group_items g)) (group_spec g)) (sym group_kinds_are) (group_kinds (kinds_of d input) g fits)))
 
     module _ (d2 : Draft) (groups : ℕ) (h2 : Adds 1 d1 d2 groups kinds (λ tables. aggregated spec (worth_of d1 shown tables)) (λ tables. is_some (first_sum_outside spec (worth_of d1 shown tables)))) (conds : List Cond) (conds_are : conds ≡ members_of g.having) where
       pub having_suits : AllByRecursion (SuitsCond (kinds_of d2 groups)) conds
@@ -87,6 +86,11 @@ module _ (d d1 : Draft) (input : ℕ) (g : Grouping) (fits : grouping_fits (kind
 
           h1b : Adds 1 d d1 shown own (λ tables. projected (group_items g) (worth_of d input tables)) (λ tables. has_item_outside (group_items g) (worth_of d input tables))
           h1b = subst (λ es. Adds 1 d d1 shown own (λ tables. projected es (worth_of d input tables)) (λ tables. has_item_outside es (worth_of d input tables))) items_are h1
+
+pub selected_give : (d : Draft) (rows : ℕ) (items chosen read : List Expr) (kinds seen : List Kind) → AllByRecursion (Suits (kinds_of d rows)) items → seen ≡ kinds_of d rows → read ≡ items → chosen ≡ items → kinds ≡ map (kind_of seen) read → ItemKinds (kinds_of d rows) chosen kinds
+selected_give d rows items chosen read kinds seen suit seen_is read_is chosen_is kinds_is =
+    subst (ItemKinds (kinds_of d rows) chosen) (sym (kinds_is ∙ (λ j. map (kind_of (seen_is j)) ((read_is ∙ sym chosen_is) j))))
+    (items_kinds (kinds_of d rows) chosen (subst (AllByRecursion (Suits (kinds_of d rows))) (sym chosen_is) suit))
 
 pub selected_is : (d e : Draft) (rows : ℕ) (items chosen read : List Expr) (kinds seen : List Kind) (i : ℕ) → seen ≡ kinds_of d rows → read ≡ items → chosen ≡ items → kinds ≡ map (kind_of seen) read →
     Adds 1 d e i kinds (λ tables. projected chosen (worth_of d rows tables)) (λ tables. has_item_outside chosen (worth_of d rows tables)) →

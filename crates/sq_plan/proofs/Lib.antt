@@ -1,7 +1,11 @@
+pub mod Taking
+pub mod Giving
 pub mod Adding
+pub mod Nexts
 pub mod Primitives
 pub mod KeyForms
 pub mod Stepping
+pub mod Resting
 pub mod LeftSteps
 pub mod FromSteps
 pub mod GroupSteps

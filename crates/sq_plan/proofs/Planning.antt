@@ -9,6 +9,7 @@ use Rattle.sq_bridge.specs.Nodes.{Node, no_node}
 use Rattle.sq_bridge.specs.Queries.{origin_node, query_node, relation_node}
 use Rattle.sq_bridge.proofs.NodeEquations.{node-Query, node-Relation}
 use Rattle.sq_circuit.specs.Circuits.{kinds_at, kinds_in, whole}
+use Rattle.sq_circuit.specs.Invariant.{table_count}
 use Rattle.sq_circuit.specs.Nodes.{Rows}
 use Rattle.sq_circuit.specs.declared.circuit.Part.{Part}
 use Rattle.sq_circuit.proofs.Alongside.{got_front}
@@ -26,6 +27,7 @@ use Rattle.sq_plan.specs.Drafts.{Adds, CanAdd, IsDraft, IsNode, blames, kinds_of
 use Rattle.sq_plan.specs.Plans.{CanPlan, CanPlanOrigin, IsSourceOf, OriginFits, Plans, PlansItems, PlansOrigin, items_sources, relation_kinds, relation_nodes}
 use Rattle.sq_plan.specs.Steps.{Becomes, node_of}
 use Rattle.sq_plan.specs.declared.draft.Draft.{Draft}
+use Rattle.sq_plan.proofs.Adding.{no_tables_in, node_more}
 use Rattle.sq_plan.proofs.Primitives.{adds_none, or_false}
 
 -- ---- what was there before
@@ -33,22 +35,24 @@ pub record Longer (d e : Draft) : Type 0 where
   pub view : e.view ≡ d.view
   pub more : List Part
   pub is : e.parts.items ≡ d.parts.items ++ more
+  pub no_tables : table_count more ≡ 0
+  pub draft : IsDraft e
 
 abbrev pub longer_by : (n : ℕ) (d e : Draft) (i : ℕ) (ks : List Kind) (z : List Rows → Rows) (f : List Rows → Bool) → Adds n d e i ks z f → Longer d e
-longer_by n d e i ks z f a = record { view = a.view; more = a.more; is = a.is }
+longer_by n d e i ks z f a = record { view = a.view; more = a.more; is = a.is; no_tables = a.no_tables; draft = a.draft }
 
 module _ (d e : Draft) (g : Longer d e) where
   pub length_is : length e.parts.items ≡ length d.parts.items + length g.more
   length_is = ap length g.is ∙ length-append d.parts.items g.more
 
   pub still : (i : ℕ) → IsNode d i → IsNode e i
-  still i low = let h = length_is in omega (arith, h, low)
+  still i low = node_more d e g.more g.is g.no_tables g.draft i low
 
   pub kinds_still : (i : ℕ) → IsNode d i → kinds_of e i ≡ kinds_of d i
-  kinds_still i low = ap (λ xs. kinds_at xs i) g.is ∙ ap kinds_in (got_front d.parts.items g.more i low)
+  kinds_still i low = ap (λ xs. kinds_at xs i) g.is ∙ ap kinds_in (got_front d.parts.items g.more i low.there)
 
   pub node_still : (i : ℕ) → IsNode d i → (tables : List Rows) → node_of e tables i ≡ node_of d tables i
-  node_still i low tables j = record { width = length (kinds_still i low j); rows = (ap (λ xs. whole xs tables i) g.is ∙ whole_more d.parts.items g.more tables i low) j; fault = false }
+  node_still i low tables j = record { width = length (kinds_still i low j); rows = (ap (λ xs. whole xs tables i) g.is ∙ whole_more d.parts.items g.more tables i low.there) j; fault = false }
 
   pub nodes_still : (nodes : List ℕ) → AllByRecursion (IsNode d) nodes → AllByRecursion (IsNode e) nodes
   nodes_still [] h = tt
@@ -67,7 +71,7 @@ pub tighten : (n m : ℕ) (d e : Draft) (i : ℕ) (ks : List Kind) (M : List Row
 tighten n m d e i ks M b le =
     let h = length_is d e (longer_by n d e i ks _ _ b.adds) in
     record {
-      adds = record { view = b.adds.view; more = b.adds.more; is = b.adds.is; few = omega (arith, h, le); draft = b.adds.draft; low = b.adds.low; kinds_are = b.adds.kinds_are; worth = b.adds.worth; blame = b.adds.blame };
+      adds = record { view = b.adds.view; more = b.adds.more; is = b.adds.is; no_tables = b.adds.no_tables; few = omega (arith, h, le); draft = b.adds.draft; low = b.adds.low; kinds_are = b.adds.kinds_are; worth = b.adds.worth; blame = b.adds.blame };
       width = b.width;
     }
 
@@ -106,7 +110,7 @@ module _ (d : Draft) (nodes : List ℕ) (o : Origin) (can : CanPlanOrigin d node
       let a = adds_none (40 * origin_sources o) d i can.room.draft (is_there nodes d n x low can.are) (λ tables. (origin_node (relation_nodes d nodes tables) o).rows) (λ tables. ap (λ (m : Node). m.rows) (full tables)) in
       record {
         becomes = record {
-          adds = record { view = a.view; more = a.more; is = a.is; few = a.few; draft = a.draft; low = a.low; kinds_are = sym own; worth = a.worth; blame = λ tables. a.blame tables ∙ ap (λ f. blames d tables || f) (ap (λ (m : Node). m.fault) (full tables)) };
+          adds = record { view = a.view; more = a.more; is = a.is; no_tables = a.no_tables; few = a.few; draft = a.draft; low = a.low; kinds_are = sym own; worth = a.worth; blame = λ tables. a.blame tables ∙ ap (λ f. blames d tables || f) (ap (λ (m : Node). m.fault) (full tables)) };
           width = λ tables. ap (λ (m : Node). m.width) (sym (full tables)) ∙ sym (ap length own);
         };
         few = omega (arith, one);
@@ -139,6 +143,7 @@ sources_begin d nodes draft = record {
   view = refl;
   more = [];
   is = sym (append-nil d.parts.items);
+  no_tables = refl;
   draft = draft;
   stand = tt;
   blame = λ tables. sym (or_false (blames d tables));
@@ -163,7 +168,7 @@ pairs_weaker P Q (x ∷ xs) (y ∷ ys) f p = (f x y p.0, pairs_weaker P Q xs ys 
 
 module _ (d e : Draft) (nodes found : List ℕ) (done : List FromItem) (so : PlansItems d e nodes found done) (are : AllByRecursion (IsNode d) nodes) (s : FromItem) where
   pub so_long : Longer d e
-  so_long = record { view = so.view; more = so.more; is = so.is }
+  so_long = record { view = so.view; more = so.more; is = so.is; no_tables = so.no_tables; draft = so.draft }
 
   pub source_can : (m : ℕ) → OriginFits (relation_kinds d nodes) s.source → items_sources done + origin_sources s.source ≤ m → CanAdd (40 * m) d → CanPlanOrigin e nodes s.source
   source_can m fits some room = record {
@@ -181,6 +186,7 @@ module _ (d e : Draft) (nodes found : List ℕ) (done : List FromItem) (so : Pla
         view = a.view ∙ so.view;
         more = so.more ++ a.more;
         is = a.is ∙ ap (λ xs. xs ++ a.more) so.is ∙ append_assoc d.parts.items so.more a.more;
+        no_tables = no_tables_in so.more a.more so.no_tables a.no_tables;
         draft = a.draft;
         stand = pairs_more (IsSourceOf d g nodes) found done i s
             (pairs_weaker (IsSourceOf d e nodes) (IsSourceOf d g nodes) found done (λ j x h. record { low = still e g long j h.low; kinds = kinds_still e g long j h.low ∙ h.kinds; node = λ tables. node_still e g long j h.low tables ∙ h.node tables }) so.stand)

@@ -1,5 +1,5 @@
 -- What the loops over the members of a set operation and over the sources of a block keep, and what their calls need.
-use Rattle.std.proofs.Common.{◌≡◌, ℕ, zero, suc, ◌+◌, ◌*◌, ◌<◌, ◌≤◌, ◌^◌, List, [], ◌∷◌, ◌++◌, length, map, take, refl, sym, ap, subst, ◌∙◌, arith}
+use Rattle.std.proofs.Common.{◌≡◌, ℕ, suc, ◌+◌, ◌*◌, ◌<◌, ◌≤◌, ◌^◌, true, List, [], ◌∷◌, ◌++◌, length, map, take, refl, sym, ap, subst, ◌∙◌, arith}
 use Rattle.std.specs.Prelude.{Option, Some, None, Result, Ok, Err, IfOk, slice_get, unwrap_or}
 use Rattle.std.specs.List.{AllByRecursion}
 use Rattle.sq_bridge.specs.Queries.{set_result}
@@ -8,23 +8,15 @@ use Rattle.sq_typed.specs.declared.query.FromItem.{FromItem}
 use Rattle.sq_typed.specs.declared.query.Query.{Query}
 use Rattle.sq_typed.specs.declared.query.Query.TheVariants as query
 use Rattle.sq_typed.specs.declared.query.SetStep.{SetStep}
+use Rattle.sq_typed.specs.Fit.{are_matched}
 use Rattle.sq_typed.specs.Sources.{origin_sources}
 use Rattle.sq_plan.specs.Drafts.{CanAdd, IsNode, kinds_of}
 use Rattle.sq_plan.specs.Plans.{CanMeet, CanPlan, CanPlanItems, CanPlanOrigin, Meets, OriginFits, Plans, PlansItems, PlansOrigin, items_sources, relation_kinds}
 use Rattle.sq_plan.specs.Steps.{Becomes, set_kinds, set_of}
 use Rattle.sq_plan.specs.declared.draft.Draft.{Draft}
-use Rattle.sq_plan.proofs.ChainPlans.{CommonSoFar, StepsSoFar, chain_ends, chain_first, common_can, common_ends, common_goes_on, common_meets, step_alike, step_can, step_goes_on, step_left, step_narrow, step_of, step_room_here, steps_begin, sum_taken, taken_more}
+use Rattle.sq_plan.proofs.ChainPlans.{CommonSoFar, StepsSoFar, chain_ends, chain_first, common_can, common_ends, common_goes_on, common_meets, step_alike, step_can, step_goes_on, step_left, step_narrow, step_of, step_room_here, steps_begin, sum_taken}
+use Rattle.sq_plan.proofs.Taking.{take_none, take_whole, taken_more}
 use Rattle.sq_plan.proofs.Planning.{source_can, sources_go_on}
-
-take_whole : {A : Type 0} (k : ℕ) (xs : List A) → length xs ≤ k → take k xs ≡ xs
-take_whole zero [] h = refl
-take_whole zero (x ∷ xs) h = absurd (omega (arith, h))
-take_whole (suc k) [] h = refl
-take_whole (suc k) (x ∷ xs) h = ap (λ ys. x ∷ ys) (take_whole k xs (omega (arith, h)))
-
-take_none : {A : Type 0} (xs : List A) → take 0 xs ≡ []
-take_none [] = refl
-take_none (x ∷ xs) = refl
 
 one_more : (k : ℕ) → suc k ≡ k + 1
 one_more k = omega arith
@@ -70,7 +62,7 @@ module _ (d : Draft) (nodes : List ℕ) (q : Query) (can : CanPlan d nodes q) wh
         pub later_left : IsNode g i
         later_left = step_left d nodes have.first steps mine e k i step have.so at g more p
 
-        pub later_alike : length (kinds_of g more) ≡ length (kinds_of g i)
+        pub later_alike : are_matched (kinds_of g i) (kinds_of g more) ≡ true
         later_alike = step_alike d nodes have.first steps mine e k i step have.so at g more p
 
         pub later_narrow : length (kinds_of g i) < 2 ^ 32

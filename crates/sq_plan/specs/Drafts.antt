@@ -1,14 +1,18 @@
 -- A circuit in the making: what its parts keep, and what a step adds to them.
---     IsDraft d             each node reads earlier nodes alone.       CanAdd n d      and there is room for n further ones
---     IsNode d i            there is a node i.       kinds_of d i, worth_of d i      its kinds, and its Z-set over tables
+--     IsThere d i           there is a node i.       IsNode d i      and its rows are those of a list, where it is sound
+--     kinds_of d i, worth_of d i      its kinds, and its Z-set over tables
+--     IsDraft d             the parts are a circuit in the making.       CanAdd n d      and there is room for n further ones
 --     blames d tables       a node of the view that is being planned has a fault
---     IsNext d p            the part p may stand behind those of d
+--     IsNext d p            the part p may stand behind those of d.       Appends d e i p      it stands there in e
 --     Adds n d e i kinds z f      behind the parts of d stand at most n others of the view; of those the node i has these kinds and
 --                           is worth z, and some of them has a fault exactly if f says so
-use Rattle.std.specs.Prelude.{◌≡◌, ℕ, zero, suc, ◌+◌, ◌<◌, ◌≤◌, ◌^◌, ◌==◌, Bool, false, ◌&&◌, ◌||◌, List, ◌++◌, length, Option, Some, None}
+use Rattle.std.specs.Prelude.{◌≡◌, ℕ, zero, suc, ◌+◌, ◌<◌, ◌≤◌, ◌^◌, ◌==◌, Bool, false, ◌&&◌, ◌||◌, List, [], ◌∷◌, ◌++◌, length, Option, Some, None}
 use Rattle.sq_expr.specs.declared.expr.Kind.{Kind}
 use Rattle.sq_circuit.specs.Circuits.{fault_of, has_fault, kinds_at, owner_at, whole, whole_from}
-use Rattle.sq_circuit.specs.Invariant.{AreEarlier, HasWidth, IsEarlier, TakesKinds}
+use Rattle.sq_circuit.specs.Begun as making
+use Rattle.sq_circuit.specs.Begun.{IsBegun}
+use Rattle.sq_circuit.specs.Invariant.{table_count}
+use Rattle.sq_circuit.specs.Listed.{HasList}
 use Rattle.sq_circuit.specs.Nodes.{Rows, left_source, operator, right_source}
 use Rattle.sq_circuit.specs.declared.circuit.Part.{Part}
 use Rattle.sq_plan.specs.declared.draft.Draft.{Draft}
@@ -32,8 +36,14 @@ abbrev pub blames : Draft → List Rows → Bool
 blames d tables = blames_view d.parts.items tables d.view
 
 -- ---- parts so far
-abbrev pub IsNode : Draft → ℕ → Type 0
-IsNode d i = i < length d.parts.items
+-- there is a node i
+abbrev pub IsThere : Draft → ℕ → Type 0
+IsThere d i = i < length d.parts.items
+
+-- and where it is sound, its rows are those of a list
+pub record IsNode (d : Draft) (i : ℕ) : Type 0 where
+  pub there : IsThere d i
+  pub list : HasList d.parts.items i
 
 abbrev pub kinds_of : Draft → ℕ → List Kind
 kinds_of d i = kinds_at d.parts.items i
@@ -41,18 +51,23 @@ kinds_of d i = kinds_at d.parts.items i
 abbrev pub worth_of : Draft → ℕ → List Rows → Rows
 worth_of d i tables = whole d.parts.items tables i
 
+-- for any number of views that has the one that is being planned
 pub record IsDraft (d : Draft) : Type 0 where
-  pub earlier : AreEarlier d.parts.items
+  pub begun : (views : ℕ) → d.view < views → IsBegun views d.view d.parts.items
 
 pub record CanAdd (n : ℕ) (d : Draft) : Type 0 where
   pub draft : IsDraft d
   pub room : length d.parts.items + n < 2 ^ 32
 
 pub record IsNext (d : Draft) (p : Part) : Type 0 where
-  pub left : IsEarlier (length d.parts.items) (left_source p.node)
-  pub right : IsEarlier (length d.parts.items) (right_source p.node)
-  pub takes : TakesKinds p.node (kinds_of d)
-  pub width : HasWidth p.node (kinds_of d) (length p.kinds)
+  pub next : (views : ℕ) → d.view < views → making.IsNext views d.view d.parts.items p
+
+-- e is d with the part p behind it, which has the number i
+pub record Appends (d e : Draft) (i : ℕ) (p : Part) : Type 0 where
+  pub view : e.view ≡ d.view
+  pub is : e.parts.items ≡ d.parts.items ++ p ∷ []
+  pub at : i ≡ length d.parts.items
+  pub draft : IsDraft e
 
 -- what a part behind those of d is worth over tables, and whether it has a fault
 abbrev pub worth_behind : Draft → Part → List Rows → Rows
@@ -66,6 +81,7 @@ pub record Adds (n : ℕ) (d e : Draft) (i : ℕ) (kinds : List Kind) (z : List 
   pub view : e.view ≡ d.view
   pub more : List Part
   pub is : e.parts.items ≡ d.parts.items ++ more
+  pub no_tables : table_count more ≡ 0
   pub few : length more ≤ n
   pub draft : IsDraft e
   pub low : IsNode e i

@@ -8,6 +8,7 @@ use Rattle.std.specs.List.{AllByRecursion, list_any}
 use Rattle.sq_ast.specs.Sources.{sum}
 use Rattle.sq_bridge.specs.Nodes.{Node}
 use Rattle.sq_bridge.specs.Queries.{both_of, origin_node, query_node, relation_node}
+use Rattle.sq_circuit.specs.Invariant.{table_count}
 use Rattle.sq_circuit.specs.Nodes.{Rows}
 use Rattle.sq_circuit.specs.declared.circuit.Part.{Part}
 use Rattle.sq_expr.specs.declared.expr.Kind.{Kind}
@@ -18,7 +19,7 @@ use Rattle.sq_typed.specs.declared.query.Origin.TheVariants as origin
 use Rattle.sq_typed.specs.declared.query.Query.{Query}
 use Rattle.sq_typed.specs.declared.query.Query.TheVariants as query
 use Rattle.sq_typed.specs.declared.query.SetStep.{SetStep}
-use Rattle.sq_typed.specs.Fit.{Fits, Pairwise, kinded_origin, kinds_given, source_kinds}
+use Rattle.sq_typed.specs.Fit.{Fits, Pairwise, are_matched, kinded_origin, kinds_given, source_kinds}
 use Rattle.sq_typed.specs.Sources.{origin_sources, query_sources}
 use Rattle.sq_plan.specs.Blocks.{HasFewGroups}
 use Rattle.sq_plan.specs.Drafts.{CanAdd, IsDraft, IsNode, blames, kinds_of}
@@ -91,6 +92,7 @@ pub record PlansItems (d e : Draft) (nodes found : List ℕ) (items : List FromI
   pub view : e.view ≡ d.view
   pub more : List Part
   pub is : e.parts.items ≡ d.parts.items ++ more
+  pub no_tables : table_count more ≡ 0
   pub draft : IsDraft e
   pub stand : Pairwise (IsSourceOf d e nodes) found items
   pub blame : (tables : List Rows) → blames e tables ≡ (blames d tables || list_any (λ s. (origin_node (relation_nodes d nodes tables) s.source).fault) items)
@@ -99,7 +101,7 @@ pub record PlansItems (d e : Draft) (nodes found : List ℕ) (items : List FromI
 -- ---- members of INTERSECT
 abbrev pub CanMeet : Draft → Option ℕ → ℕ → Type 0
 CanMeet d None more = IsDraft d
-CanMeet d (Some before) more = CanAdd 4 d × (IsNode d before × (IsNode d more × ((length (kinds_of d more) ≡ length (kinds_of d before)) × (length (kinds_of d before) < 2 ^ 32))))
+CanMeet d (Some before) more = CanAdd 4 d × (IsNode d before × (IsNode d more × ((are_matched (kinds_of d before) (kinds_of d more) ≡ true) × (length (kinds_of d before) < 2 ^ 32))))
 
 abbrev pub Meets : Draft → Draft → Option ℕ → ℕ → ℕ → Type 0
 Meets d e None more i = (i ≡ more) × (e ≡ d)

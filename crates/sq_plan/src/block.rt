@@ -48,7 +48,7 @@ impl Draft {
         ensures { IfOk result (λ i. Becomes 1 self.old self.new i (kinds_in self.old rows) (λ tables. once_node distinct (node_of self.old tables rows))) }
     {
         if distinct {
-            self.once(alloc, rows, false)
+            self.once(alloc, rows)
         } else {
             Ok(rows)
         }

@@ -1,7 +1,8 @@
 //! A circuit in the making, to which nodes are added one by one.
-ghost use Rattle.std.specs.Prelude.{◌≡◌, IfOk, Some};
+ghost use Rattle.std.specs.Prelude.{◌≡◌, IfOk, Some, false};
+ghost use Rattle.sq_circuit.specs.Listed.{is_loose};
 ghost use Rattle.sq_circuit.specs.declared.circuit.Part.{Part as Known};
-ghost use Rattle.sq_plan.specs.Drafts.{Adds, CanAdd, IsNext, IsNode, faulty_behind, kinds_of, worth_behind};
+ghost use Rattle.sq_plan.specs.Drafts.{Adds, Appends, CanAdd, IsNext, IsThere, faulty_behind, kinds_of, worth_behind};
 
 use sq_circuit::{Node, Part};
 use sq_expr::Kind;
@@ -19,7 +20,7 @@ pub(crate) struct Draft {
 impl Draft {
     // The kinds of a node's columns. Takes no memory.
     pub(crate) fn kinds(&self, node: u32) -> &[Kind]
-        requires { IsNode self.now node }
+        requires { IsThere self.now node }
         ensures { result.now ≡ kinds_of self.now node }
     {
         self.parts[node as usize].kinds.as_slice()
@@ -27,14 +28,14 @@ impl Draft {
 
     // Kinds of one's own that are those of a node.
     pub(crate) fn copy_kinds(&self, alloc: Global, node: u32) -> Result<Items<Kind>, NoMemory>
-        requires { IsNode self.now node }
+        requires { IsThere self.now node }
         ensures { IfOk result (λ kinds. kinds ≡ kinds_of self.now node) }
     {
         Ok(Items::from_slice(alloc, self.kinds(node))?)
     }
 
-    // Adds a node of the view, with the kinds of its columns, and answers its number.
-    pub(crate) fn add(
+    // Puts a node of the view behind the others, with the kinds of its columns, and answers its number. Its rows need be no list.
+    pub(crate) fn append(
         &mut self,
         node: Node,
         kinds: Items<Kind>,
@@ -42,8 +43,7 @@ impl Draft {
     ) -> Result<u32, NoMemory>
         requires room { CanAdd 1 self.old }
         requires next { IsNext self.old (record { node = node; kinds = kinds; place = place; owner = Some self.old.view }) }
-        ensures { let part : Known = record { node = node; kinds = kinds; place = place; owner = Some self.old.view } in
-            IfOk result (λ i. Adds 1 self.old self.new i kinds (worth_behind self.old part) (faulty_behind self.old part)) }
+        ensures { IfOk result (λ i. Appends self.old self.new i (record { node = node; kinds = kinds; place = place; owner = Some self.old.view })) }
     {
         let number = self.parts.len() as u32;
         self.parts.push(Part {
@@ -53,5 +53,21 @@ impl Draft {
             owner: Some(self.view),
         })?;
         Ok(number)
+    }
+
+    // Adds a node of the view, with the kinds of its columns, and answers its number. Its rows are those of a list.
+    pub(crate) fn add(
+        &mut self,
+        node: Node,
+        kinds: Items<Kind>,
+        place: bool,
+    ) -> Result<u32, NoMemory>
+        requires room { CanAdd 1 self.old }
+        requires next { IsNext self.old (record { node = node; kinds = kinds; place = place; owner = Some self.old.view }) }
+        requires list { is_loose node place ≡ false }
+        ensures { let part : Known = record { node = node; kinds = kinds; place = place; owner = Some self.old.view } in
+            IfOk result (λ i. Adds 1 self.old self.new i kinds (worth_behind self.old part) (faulty_behind self.old part)) }
+    {
+        self.append(node, kinds, place)
     }
 }

@@ -1,24 +1,38 @@
 use Rattle.std.proofs.Common.{◌∙◌, ap, ap₂, length, sym}
 use Rattle.sq_typed.specs.Fit.{wider_kinds}
-use Rattle.sq_plan.proofs.Adding.{kinds_stay, stays_node}
+use Rattle.sq_plan.proofs.Adding.{stays_node}
+use Rattle.sq_plan.specs.Drafts.{kinds_of}
+use Rattle.sq_plan.proofs.Giving.{matched_length}
 use Rattle.sq_plan.proofs.Primitives.{if_ok}
-use Rattle.sq_plan.proofs.Stepping.{as_first, except_is, wide_left}
+use Rattle.sq_plan.proofs.Stepping.{except_is, in_second, second_once, sides_alike, sides_give, sides_narrow}
 use Rattle.sq_plan.proofs.draft.Draft.except.Goals as goal
 
-pub minus-requires-clause-wide_left : goal.minus-requires-clause-wide_left
-minus-requires-clause-wide_left c =
-    as_first c.args.self.now c.args.self.now c.args.left c.args.right c.in_ok-kinds.kinds (c.in_ok-kinds.ensures ∙ ap₂ wider_kinds c.kinds.ensures c.kinds-2.ensures) c.requires.alike
-    c.once.new.self c.once-2.new.self c.in_ok-rows.rows c.in_ok-others.others _ _ c.requires.low_right c.in_ok-rows.ensures c.in_ok-others.ensures c.in_ok-kinds.kinds
-    (wide_left c.args.self.now c.args.self.now c.args.left c.args.right c.in_ok-kinds.kinds (c.in_ok-kinds.ensures ∙ ap₂ wider_kinds c.kinds.ensures c.kinds-2.ensures) c.requires.alike)
-    ∙ sym (ap length (kinds_stay 1 c.once-2.new.self c.common.new.self c.in_ok-both.both _ _ _ c.in_ok-both.ensures c.in_ok-rows.rows
-    (stays_node 1 c.once.new.self c.once-2.new.self c.in_ok-others.others _ _ _ c.in_ok-others.ensures c.in_ok-rows.rows c.in_ok-rows.ensures.low)))
+pub wider_kinds-requires : goal.wider_kinds-requires
+wider_kinds-requires c = ap length c.kinds-2.ensures ∙ matched_length (kinds_of c.args.self.now c.args.left) (kinds_of c.args.self.now c.args.right) c.requires.alike ∙ sym (ap length c.kinds.ensures)
 
-pub minus-requires-clause-wide_right : goal.minus-requires-clause-wide_right
-minus-requires-clause-wide_right c =
-    wide_left c.args.self.now c.args.self.now c.args.left c.args.right c.in_ok-kinds.kinds (c.in_ok-kinds.ensures ∙ ap₂ wider_kinds c.kinds.ensures c.kinds-2.ensures) c.requires.alike
-    ∙ sym (ap length (c.in_ok-both.ensures.kinds_are ∙ c.in_ok-own.ensures))
+pub once-requires-2-clause-low : goal.once-requires-2-clause-low
+once-requires-2-clause-low c = stays_node 1 c.args.self.now c.once.new.self c.in_ok-rows.rows _ _ _ c.in_ok-rows.ensures c.args.right c.requires.low_right
+
+pub rest-requires-clause-low_left : goal.rest-requires-clause-low_left
+rest-requires-clause-low_left c = in_second c.args.self.now c.args.left c.args.right c.in_ok-kinds.kinds (c.in_ok-kinds.ensures ∙ ap₂ wider_kinds c.kinds.ensures c.kinds-2.ensures) c.requires.alike
+    c.requires.low_left c.requires.low_right c.once.new.self c.once-2.new.self c.in_ok-rows.rows c.in_ok-others.others c.in_ok-rows.ensures c.in_ok-others.ensures
+
+pub rest-requires-clause-alike : goal.rest-requires-clause-alike
+rest-requires-clause-alike c = sides_alike c.args.self.now c.args.left c.args.right c.in_ok-kinds.kinds (c.in_ok-kinds.ensures ∙ ap₂ wider_kinds c.kinds.ensures c.kinds-2.ensures) c.requires.alike
+    c.requires.low_left c.requires.low_right c.once.new.self c.once-2.new.self c.in_ok-rows.rows c.in_ok-others.others c.in_ok-rows.ensures c.in_ok-others.ensures
+
+pub rest-requires-clause-once : goal.rest-requires-clause-once
+rest-requires-clause-once c = second_once c.args.self.now c.args.left c.args.right c.in_ok-kinds.kinds (c.in_ok-kinds.ensures ∙ ap₂ wider_kinds c.kinds.ensures c.kinds-2.ensures) c.requires.alike
+    c.requires.low_left c.requires.low_right c.once.new.self c.once-2.new.self c.in_ok-rows.rows c.in_ok-others.others c.in_ok-rows.ensures c.in_ok-others.ensures
+
+pub rest-requires-clause-give : goal.rest-requires-clause-give
+rest-requires-clause-give c = sides_give c.args.self.now c.args.left c.args.right c.in_ok-kinds.kinds (c.in_ok-kinds.ensures ∙ ap₂ wider_kinds c.kinds.ensures c.kinds-2.ensures) c.requires.alike
+    c.requires.low_left c.requires.low_right c.once.new.self c.once-2.new.self c.in_ok-rows.rows c.in_ok-others.others c.in_ok-rows.ensures c.in_ok-others.ensures
+
+pub rest-requires-clause-narrow : goal.rest-requires-clause-narrow
+rest-requires-clause-narrow c = sides_narrow c.args.self.now c.args.left c.args.right c.in_ok-kinds.kinds (c.in_ok-kinds.ensures ∙ ap₂ wider_kinds c.kinds.ensures c.kinds-2.ensures) c.requires.alike
+    c.requires.low_left c.requires.low_right c.once.new.self c.once-2.new.self c.in_ok-rows.rows c.in_ok-others.others c.in_ok-rows.ensures c.in_ok-others.ensures c.requires.narrow
 
 pub returns : goal.returns
-returns c = if_ok c.minus.result _ _ (λ i h. except_is c.args.self.now c.args.self.now c.args.left c.args.right c.in_ok-kinds.kinds (c.in_ok-kinds.ensures ∙ ap₂ wider_kinds c.kinds.ensures c.kinds-2.ensures) c.requires.alike
-    c.once.new.self c.once-2.new.self c.common.new.self c.minus.new.self c.in_ok-rows.rows c.in_ok-others.others c.in_ok-both.both i c.in_ok-own.own c.requires.low_left c.requires.low_right c.in_ok-own.ensures
-    c.in_ok-rows.ensures c.in_ok-others.ensures c.in_ok-both.ensures h) c.minus.ensures
+returns c = if_ok c.rest.result _ _ (λ i h. except_is c.args.self.now c.args.left c.args.right c.in_ok-kinds.kinds (c.in_ok-kinds.ensures ∙ ap₂ wider_kinds c.kinds.ensures c.kinds-2.ensures) c.requires.alike
+    c.requires.low_left c.requires.low_right c.once.new.self c.once-2.new.self c.in_ok-rows.rows c.in_ok-others.others c.in_ok-rows.ensures c.in_ok-others.ensures c.rest.new.self i h) c.rest.ensures

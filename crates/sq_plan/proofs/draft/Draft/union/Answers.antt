@@ -1,14 +1,29 @@
-use Rattle.std.proofs.Common.{◌∙◌, ap₂}
+use Rattle.std.proofs.Common.{◌∙◌, ap, ap₂, length, sym}
 use Rattle.sq_typed.specs.Fit.{wider_kinds}
+use Rattle.sq_plan.specs.Drafts.{kinds_of}
+use Rattle.sq_plan.proofs.Giving.{matched_length}
 use Rattle.sq_plan.proofs.Primitives.{if_ok}
-use Rattle.sq_plan.proofs.Stepping.{union_is, wide_left, wide_right}
+use Rattle.sq_plan.proofs.Stepping.{once_all_next, once_room, sum_next, sum_there, union_is}
 use Rattle.sq_plan.proofs.draft.Draft.union.Goals as goal
 
-pub plus-requires-clause-wide_left : goal.plus-requires-clause-wide_left
-plus-requires-clause-wide_left c = wide_left c.args.self.now c.args.self.now c.args.left c.args.right c.in_ok-kinds.kinds (c.in_ok-kinds.ensures ∙ ap₂ wider_kinds c.kinds.ensures c.kinds-2.ensures) c.requires.alike
+pub wider_kinds-requires : goal.wider_kinds-requires
+wider_kinds-requires c = ap length c.kinds-2.ensures ∙ matched_length (kinds_of c.args.self.now c.args.left) (kinds_of c.args.self.now c.args.right) c.requires.alike ∙ sym (ap length c.kinds.ensures)
 
-pub plus-requires-clause-wide_right : goal.plus-requires-clause-wide_right
-plus-requires-clause-wide_right c = wide_right c.args.self.now c.args.self.now c.args.left c.args.right c.in_ok-kinds.kinds (c.in_ok-kinds.ensures ∙ ap₂ wider_kinds c.kinds.ensures c.kinds-2.ensures) c.requires.alike
+pub append-requires-clause-next : goal.append-requires-clause-next
+append-requires-clause-next c = sum_next c.args.self.now c.args.left c.args.right c.in_ok-kinds.kinds (c.in_ok-kinds.ensures ∙ ap₂ wider_kinds c.kinds.ensures c.kinds-2.ensures) c.requires.alike c.requires.room.draft c.requires.low_left c.requires.low_right
+
+pub copy_kinds-requires : goal.copy_kinds-requires
+copy_kinds-requires c = sum_there c.args.self.now c.args.left c.args.right c.in_ok-kinds.kinds (c.in_ok-kinds.ensures ∙ ap₂ wider_kinds c.kinds.ensures c.kinds-2.ensures) c.requires.alike
+    c.requires.room.draft c.requires.low_left c.requires.low_right c.append.new.self c.in_ok-all.all c.in_ok-all.ensures
+
+pub add-requires-clause-room : goal.add-requires-clause-room
+add-requires-clause-room c = once_room c.args.self.now c.args.left c.args.right c.in_ok-kinds.kinds (c.in_ok-kinds.ensures ∙ ap₂ wider_kinds c.kinds.ensures c.kinds-2.ensures) c.requires.alike
+    c.requires.room.draft c.requires.low_left c.requires.low_right c.append.new.self c.in_ok-all.all c.in_ok-all.ensures c.requires.room
+
+pub add-requires-clause-next : goal.add-requires-clause-next
+add-requires-clause-next c = once_all_next c.args.self.now c.args.left c.args.right c.in_ok-kinds.kinds (c.in_ok-kinds.ensures ∙ ap₂ wider_kinds c.kinds.ensures c.kinds-2.ensures) c.requires.alike
+    c.requires.room.draft c.requires.low_left c.requires.low_right c.append.new.self c.in_ok-all.all c.in_ok-all.ensures c.in_ok-kinds-2.kinds c.in_ok-kinds-2.ensures
 
 pub returns : goal.returns
-returns c = if_ok c.once.result _ _ (λ i b. union_is c.args.self.now c.plus.new.self c.args.left c.args.right c.in_ok-kinds.kinds (c.in_ok-kinds.ensures ∙ ap₂ wider_kinds c.kinds.ensures c.kinds-2.ensures) c.requires.alike c.once.new.self c.in_ok-all.all i c.in_ok-all.ensures b) c.once.ensures
+returns c = if_ok c.add.result _ _ (λ i b. union_is c.args.self.now c.args.left c.args.right c.in_ok-kinds.kinds (c.in_ok-kinds.ensures ∙ ap₂ wider_kinds c.kinds.ensures c.kinds-2.ensures) c.requires.alike
+    c.requires.room.draft c.requires.low_left c.requires.low_right c.append.new.self c.in_ok-all.all c.in_ok-all.ensures c.in_ok-kinds-2.kinds c.in_ok-kinds-2.ensures c.add.new.self i b) c.add.ensures

@@ -1,0 +1,20 @@
+use Rattle.std.proofs.Common.{◌∙◌, ap, length}
+use Rattle.sq_bridge.specs.Joins.{same_rows}
+use Rattle.sq_plan.proofs.Primitives.{if_ok}
+use Rattle.sq_plan.proofs.Resting.{found_next, others_next, others_room, rest_adds}
+use Rattle.sq_plan.proofs.draft.Draft.rest.Goals as goal
+
+pub append-requires-clause-next : goal.append-requires-clause-next
+append-requires-clause-next c = found_next c.args.self.now c.requires.room.draft c.args.left c.args.right c.requires.low_left c.requires.low_right c.requires.alike c.requires.once c.in_ok-op.op (c.in_ok-op.ensures ∙ ap (λ ks. same_rows (length ks)) c.kinds.ensures) c.in_ok-own.own c.in_ok-own.ensures
+
+pub append-requires-2-clause-room : goal.append-requires-2-clause-room
+append-requires-2-clause-room c = others_room c.args.self.now c.requires.room.draft c.args.left c.args.right c.requires.low_left c.requires.low_right c.requires.alike c.requires.once c.in_ok-op.op (c.in_ok-op.ensures ∙ ap (λ ks. same_rows (length ks)) c.kinds.ensures) c.in_ok-own.own c.in_ok-own.ensures
+    c.append.new.self c.in_ok-found.found c.in_ok-found.ensures c.requires.room
+
+pub append-requires-2-clause-next : goal.append-requires-2-clause-next
+append-requires-2-clause-next c = others_next c.args.self.now c.requires.room.draft c.args.left c.args.right c.requires.low_left c.requires.low_right c.requires.alike c.requires.once c.in_ok-op.op (c.in_ok-op.ensures ∙ ap (λ ks. same_rows (length ks)) c.kinds.ensures) c.in_ok-own.own c.in_ok-own.ensures
+    c.append.new.self c.in_ok-found.found c.in_ok-found.ensures c.args.kinds c.requires.give c.args.place
+
+pub returns : goal.returns
+returns c = if_ok c.append-2.result _ _ (λ i g. rest_adds c.args.self.now c.requires.room.draft c.args.left c.args.right c.requires.low_left c.requires.low_right c.requires.alike c.requires.once c.in_ok-op.op (c.in_ok-op.ensures ∙ ap (λ ks. same_rows (length ks)) c.kinds.ensures) c.in_ok-own.own c.in_ok-own.ensures
+    c.append.new.self c.in_ok-found.found c.in_ok-found.ensures c.args.kinds c.requires.give c.args.place c.append-2.new.self i g) c.append-2.ensures
