@@ -50,7 +50,7 @@ made_length ps = subst (λ es. length es ≤ length ps) (sym (entries-from_pairs
 
 -- ---- the arguments of rows
 module _ (column : ℕ) where
-  at_most_one : (row : Row) → length (argument_of column row) ≤ 1
+  pub at_most_one : (row : Row) → length (argument_of column row) ≤ 1
   at_most_one row = elim (has_value column row) as (λ b. length (cond b ((column_of row column ∷ []) ∷ []) []) ≤ 1) [ true ↦ omega arith | false ↦ omega arith ]
 
   one_weighs : (row : Row) (n : ℤ) → mass_of (weighing n (argument_of column row)) ≤ unsigned_abs n

@@ -13,3 +13,11 @@ pub mod Values
 pub mod GroupRows
 pub mod Following
 pub mod Changing
+pub mod Homes
+pub mod Entered
+pub mod Touching
+pub mod Keeping
+pub mod FirstSums
+pub mod Risen
+pub mod Going
+pub mod Turning

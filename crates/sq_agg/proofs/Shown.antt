@@ -10,13 +10,13 @@ use Rattle.sq_ops.specs.declared.aggregate.AggSpec.{AggSpec}
 use Rattle.sq_ops.specs.Aggregates.{group_row, rows_of_group, sums_of}
 use Rattle.sq_expr.specs.Bigint.{first_not_bigint, is_bigint}
 
-abbrev keyed : List Value → ℤ → List Value × ℤ
+abbrev pub keyed : List Value → ℤ → List Value × ℤ
 keyed c n = (c, n)
 
 abbrev pub first_keyed : List (List Value × ℤ) → Option (List Value × ℤ)
 first_keyed ss = find (λ s. not (is_bigint s.1)) ss
 
-with_its_key : (c : List Value) (ns : List ℤ) → first_keyed (map (λ n. (c, n)) ns) ≡ option_map (keyed c) (first_not_bigint ns)
+pub with_its_key : (c : List Value) (ns : List ℤ) → first_keyed (map (λ n. (c, n)) ns) ≡ option_map (keyed c) (first_not_bigint ns)
 with_its_key c [] = refl
 with_its_key c (n ∷ ns) =
     elim (is_bigint n) as (λ b. cond (not b) (Some (c, n)) (first_keyed (map (λ n. (c, n)) ns)) ≡ option_map (keyed c) (cond (not b) (Some n) (first_not_bigint ns))) [

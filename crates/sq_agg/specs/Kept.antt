@@ -3,7 +3,6 @@
 --     argument_key c i          the key of the arguments of call i, counted from 0: the group, and the number of the call behind it
 --     HoldsAccumulators spec parts z    under each group stands the accumulator of its rows, with the row without values
 --     HoldsArguments spec parts z       the arguments of each call of MIN or MAX that are not NULL, with their weights
---     HoldsShown spec parts z           under each group the row that is shown of it, with the weight 1
 --     kept_accumulator parts c, group_accumulator spec z c      the accumulator that is kept of a group, and that of its rows
 --     CallAfter f, weights_after, value_after      a group, and a call of MIN or MAX, after a change: the weights of its arguments, and its value
 use Rattle.std.specs.Prelude.{◌≡◌, ℕ, Bool, true, false, if◌then◌else◌, List, [], ◌∷◌, ◌++◌, slice_get, ℤ, pos, Some}
@@ -16,7 +15,7 @@ use Rattle.sq_algebra.specs.Operators.{IsNonNegative}
 use Rattle.sq_algebra.specs.ZSet.{ZSet, plus, weight, zero}
 use Rattle.sq_expr.specs.declared.expr.Func.{Func}
 use Rattle.sq_expr.specs.declared.expr.Func.TheVariants.{CountAll, Count, Sum, Min, Max}
-use Rattle.sq_ops.specs.Aggregates.{call_value, part_of, rows_of_group}
+use Rattle.sq_ops.specs.Aggregates.{call_value, rows_of_group}
 use Rattle.sq_ops.specs.Arguments.{arguments_of_group}
 use Rattle.sq_ops.specs.Wholes.{has_no_values}
 use Rattle.sq_ops.specs.declared.aggregate.AggSpec.{AggSpec}
@@ -42,9 +41,6 @@ pub record HoldsAccumulators (spec : AggSpec) (parts : List (List (Entry (ZSet �
 pub record HoldsArguments (spec : AggSpec) (parts : List (List (Entry ℤ))) (z : ZSet (List Value) row_cmp) : Type 0 where
   pub held : (c row : List Value) (i : ℕ) (call : Call) → slice_get spec.calls i ≡ Some call → has_ends call.func ≡ true
       → content integers (argument_key c i, row) parts ≡ weight row (arguments_of_group spec call.arg c z)
-
-pub record HoldsShown (spec : AggSpec) (parts : List (List (Entry ℤ))) (z : ZSet (List Value) row_cmp) : Type 0 where
-  pub held : (c row : List Value) → content integers (c, row) parts ≡ weight row (part_of spec.global spec.calls c (rows_of_group spec z c))
 
 -- ---- words of the laws
 abbrev pub Row : Type 0

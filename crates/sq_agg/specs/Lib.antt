@@ -5,3 +5,5 @@ pub mod GroupLaws
 pub mod Kept
 pub mod Stepping
 pub mod Shifts
+pub mod Aggregating
+pub mod Entering
