@@ -1,4 +1,4 @@
-//! Tests of values, expressions, catalogues, sources and sinks: what no clause says of them.
+//! Tests of values, expressions, catalogues, members of conditions, sources and sinks: what no clause says of them.
 #![tactic(auto)]
 
 #[cfg(test)]
@@ -7,6 +7,9 @@ mod catalogs;
 mod expressions;
 #[cfg(test)]
 mod fixtures;
+pub mod meanings;
+#[cfg(test)]
+mod members;
 #[cfg(test)]
 mod streams;
 #[cfg(test)]
