@@ -2,3 +2,6 @@ mod JsonOf
 mod Members
 mod TableLemmas
 pub mod FitLemmas
+mod Places
+pub mod CutLemmas
+pub mod PieceLemmas

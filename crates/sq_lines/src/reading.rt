@@ -17,7 +17,7 @@ use sq_value::{NoMemory, Row};
 use std::alloc::Global;
 
 /// The most bytes that a change line may have.
-const LONGEST_LINE: usize = 1_048_576;
+pub(crate) const LONGEST_LINE: usize = 1_048_576;
 
 /// What a line says over the relations of the catalogue. `NoMemory` comes only from a refused allocation.
 ///
