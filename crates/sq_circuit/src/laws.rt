@@ -17,7 +17,7 @@ ghost use Rattle.sq_circuit.specs.Verdicts.{AreTold, IsAtMost, IsMadeOfReads, Is
 ghost use Rattle.sq_circuit.specs.declared.circuit.Part.{Part as Known};
 ghost use Rattle.sq_circuit.specs.declared.node.Node.{Node as Operator};
 
-use crate::{Circuit, LinearOp, Node, Part};
+use crate::{Changes, Circuit, LinearOp, Node, Part};
 
 /// Every kind of node adds up over the parts in all shards, by the keys of the node, and changes by these keys; over no
 /// rows there are its standing rows alone. `IsLawful` has these laws by name, and no law above has to tell kinds apart.
@@ -155,4 +155,9 @@ fn parts_cross_threads() {
 // So may a circuit.
 fn circuits_cross_threads() {
     is_send_and_sync::<Circuit>();
+}
+
+// So may changes.
+fn changes_cross_threads() {
+    is_send_and_sync::<Changes>();
 }

@@ -2,9 +2,11 @@
 //! which view is to blame if a number leaves its range.
 #![tactic(auto)]
 
+mod changes;
 mod circuit;
 pub mod laws;
 mod node;
 
+pub use changes::Changes;
 pub use circuit::{Circuit, Part};
 pub use node::{LinearOp, Node};
