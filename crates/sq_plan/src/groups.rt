@@ -9,8 +9,8 @@ ghost use Rattle.sq_typed.specs.Numbered.{call_kind};
 
 use crate::columns::{kind_at, kind_of, kinds_of, numbers_below};
 use crate::draft::Draft;
-use crate::members::members_of;
 use sq_expr::{Expr, Func, Kind};
+use sq_members::members_of;
 use sq_ops::{AggSpec, Call};
 use sq_typed::{BlockCall, Grouping};
 use sq_value::NoMemory;

@@ -8,7 +8,6 @@ mod from;
 mod groups;
 mod keys;
 mod left;
-mod members;
 mod query;
 mod sets;
 mod steps;
