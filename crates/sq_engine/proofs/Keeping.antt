@@ -20,7 +20,7 @@ use Rattle.sq_engine.specs.Engines.{IsKept, State, begun, moved, no_tables, view
 use Rattle.sq_engine.proofs.Listing.{each_got, each_past}
 
 -- ---- tables without rows are good
-total_none : total none ≡ pos 0
+pub total_none : total none ≡ pos 0
 unfolding total
 total_none = ap (int_sum_by (λ (e : List Value × ℤ). e.1)) (entries-zero row_cmp)
 
@@ -33,7 +33,7 @@ listed_none = record {
 kinds_none : (kinds : List Kind) → HasKinds kinds none
 kinds_none kinds = subst (λ (es : List (List Value × ℤ)). All (λ e. AreOfKinds e.0 kinds) es) (sym (entries-zero row_cmp)) (λ i d low. absurd (omega arith))
 
-none_at : (n t : ℕ) → table_at (each_below (λ t. none) n) t ≡ none
+pub none_at : (n t : ℕ) → table_at (each_below (λ t. none) n) t ≡ none
 none_at n t = step (cases_lt t n)
   where
     step : (t < n) ⊎ (n ≤ t) → table_at (each_below (λ t. none) n) t ≡ none

@@ -79,6 +79,13 @@ past_tables (z ∷ zs) (suc t) high = past_tables zs t (omega arith)
 pub each_past : (f : ℕ → Rows) (n t : ℕ) → n ≤ t → table_at (each_below f n) t ≡ none
 each_past f n t high = past_tables (each_below f n) t (let long = each-length f n in omega arith)
 
+-- lists of tables with the same tables
+pub same_tables : (xs ys : List Rows) → length xs ≡ length ys → ((t : ℕ) → t < length xs → table_at xs t ≡ table_at ys t) → xs ≡ ys
+same_tables [] [] many same = refl
+same_tables [] (y ∷ ys) many same = absurd (omega arith)
+same_tables (x ∷ xs) [] many same = absurd (omega arith)
+same_tables (x ∷ xs) (y ∷ ys) many same = ap₂ (λ z zs. z ∷ zs) (same zero (omega arith)) (same_tables xs ys (omega arith) (λ t low. same (suc t) (omega arith)))
+
 -- ---- a table with a change
 pub plus_none : (z : Rows) → plus z none ≡ z
 plus_none z = same_weights (plus z none) z (λ row. let sum = weight-plus row z none in let nothing = weight-zero row in sum ∙ ap (λ w. weight row z +ℤ w) nothing ∙ omega (arith, ints))

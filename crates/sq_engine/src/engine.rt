@@ -1,13 +1,17 @@
 //! `Engine`: a circuit over tables that change tick by tick.
 ghost use Rattle.std.specs.Prelude.{◌≡◌, ◌<◌, ◌≤◌, ◌^◌, ℕ, length, true, false, None, Some, IfOk, OnOk, OnErr};
+ghost use Rattle.std.specs.declared.result.Result.TheVariants.{Ok as Made, Err as Lacking};
 ghost use Rattle.sq_circuit.specs.Circuits.{verdict};
 ghost use Rattle.sq_circuit.specs.Invariant.{IsGood};
+ghost use Rattle.sq_engine.specs.Admitting.{MayAdmit, made, netted};
 ghost use Rattle.sq_engine.specs.Engines.{begun, fresh, moved, no_tables, views_between, views_over, with_changes};
 
-use crate::TickRefusal;
+use crate::admit::{first_absent, netted};
 use crate::tables::{changed_tables, no_tables};
 use crate::views::{copies, differences, views_over};
+use crate::{AdmitRefusal, TickRefusal};
 use sq_circuit::Circuit;
+use sq_typed::Update;
 use sq_value::NoMemory;
 use sq_zset::ZSet;
 use std::alloc::Global;
@@ -110,6 +114,26 @@ impl Engine {
         self.shown = shown;
         self.started = true;
         Ok(Changes { views })
+    }
+
+    /// What some updates change in the tables of an engine that has started, those of one row added up.
+    ///
+    /// Each update speaks of a table and has a row of its kinds, and the rows of a table with all that are put into it are at most
+    /// 2^61. The answer is `Absent` exactly at the first delete whose row has no copy left among the old rows and the earlier
+    /// updates, with its line; and `Memory` when memory runs out. No table is copied.
+    pub fn admit(&self, alloc: Global, updates: &[Update]) -> Result<Delta, AdmitRefusal>
+        requires started { self.now.started ≡ true }
+        requires fits { MayAdmit self.now updates.now }
+        ensures ok { IfOk result (λ delta. delta ≡ netted (length self.now.tables) updates.now) }
+        ensures made { IfOk result (λ delta. made self.now.tables updates.now ≡ Made (with_changes self.now.tables delta)) }
+        ensures good { IfOk result (λ delta. IsGood self.now.circuit (with_changes self.now.tables delta)) }
+        ensures absent { (line : ℕ) → result ≡ Err (AdmitRefusal.Absent line) → made self.now.tables updates.now ≡ Lacking line }
+    {
+        if let Some(line) = first_absent(alloc, &self.tables, updates)? {
+            return Err(AdmitRefusal::Absent { line });
+        }
+        let changes = netted(alloc, &self.circuit, updates)?;
+        Ok(Delta { changes })
     }
 
     /// Makes a change of each table of an engine that has started; with their changes the tables are good for the circuit.

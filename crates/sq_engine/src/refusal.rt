@@ -1,5 +1,6 @@
-//! Why an engine refuses a tick.
+//! Why an engine refuses updates, and why a tick.
 ghost use Rattle.std.specs.Prelude.{◌≡◌};
+ghost use Rattle.sq_engine.specs.declared.refusal.AdmitRefusal.TheVariants.{Memory as NotAdmitted};
 ghost use Rattle.sq_engine.specs.declared.refusal.TickRefusal.TheVariants.{Memory};
 
 use sq_value::NoMemory;
@@ -36,5 +37,22 @@ impl<T: Drop> From<AllocFailed<T>> for TickRefusal {
 
     fn from(_: AllocFailed<T>) -> TickRefusal {
         TickRefusal::Memory
+    }
+}
+
+/// Why updates were not admitted.
+#[derive(Clone, Copy, Debug, PartialEq, Eq)]
+pub enum AdmitRefusal {
+    /// The update with this line deletes a row of which its table has no copy left then. No earlier update does.
+    Absent { line: u64 },
+    /// Memory ran out.
+    Memory,
+}
+
+impl From<NoMemory> for AdmitRefusal {
+    ghost from_gives = { λ _ refusal. refusal ≡ NotAdmitted };
+
+    fn from(_: NoMemory) -> AdmitRefusal {
+        AdmitRefusal::Memory
     }
 }

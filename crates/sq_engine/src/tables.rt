@@ -2,7 +2,7 @@
 ghost use Rattle.std.specs.Prelude.{◌≡◌, ◌<◌, ℕ, length, IfOk};
 ghost use Rattle.sq_algebra.specs.ZSet.{plus};
 ghost use Rattle.sq_circuit.specs.Circuits.{table_at};
-ghost use Rattle.sq_circuit.specs.Invariant.{is_table, table_count};
+ghost use Rattle.sq_circuit.specs.Invariant.{IsCircuit, is_table, table_count};
 ghost use Rattle.sq_engine.specs.Engines.{no_tables, with_changes};
 ghost use Rattle.sq_zset.specs.Range.{IsInRange};
 
@@ -26,9 +26,10 @@ fn is_table(node: &Node) -> bool
     }
 }
 
-// How many tables a circuit has.
-fn table_count(circuit: &Circuit) -> u32
-    ensures { result ≡ table_count circuit.now }
+/// How many tables a circuit has.
+pub fn table_count(circuit: &Circuit) -> u32
+    ensures count { result ≡ table_count circuit.now }
+    ensures sound { IsCircuit circuit.now }
 {
     let mut count = 0;
     for i in 0..circuit.len() {
