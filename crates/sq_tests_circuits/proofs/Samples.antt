@@ -12,7 +12,7 @@ use Rattle.sq_expr.specs.declared.typing.Sort.TheVariants.{Numeric}
 use Rattle.sq_expr.proofs.Kept.{conjunction_suits}
 use Rattle.sq_circuit.specs.declared.node.LinearOp.TheVariants.{Keep, Project, Pad}
 use Rattle.sq_circuit.specs.Circuits.{kinds_at, whole}
-use Rattle.sq_circuit.specs.Gives.{GivesKinds, OfNumber}
+use Rattle.sq_circuit.specs.Gives.{AreWithin, GivesKinds, OfNumber, Same}
 use Rattle.sq_circuit.specs.Invariant.{HasWidth, IsBetween, IsEarlier, IsInOrder, IsOwned, IsPart, TakesKinds, is_table, is_view, table_count, view_count}
 use Rattle.sq_circuit.specs.Listed.{AsksLists, IsListedPart, IsShort}
 use Rattle.sq_circuit.specs.Nodes.{Rows, left_source, right_source}
@@ -31,6 +31,10 @@ each : (P : ℕ → Part → Type 0) (c : List Part) → EachPart P c → (i : �
 each P [] h i p e = absurd (cc e)
 each P (q ∷ c) h zero p e = subst (λ r. P 0 r) (same_Some q p e) h.0
 each P (q ∷ c) h (suc i) p e = each (λ j. P (suc j)) c h.1 i p e
+
+-- a number is as wide as it is claimed to be
+as_they_are : AreWithin numbers numbers
+as_they_are = (Same refl, tt)
 
 -- a part that may stand there, asks for lists alone, and is a table of one BIGINT if it is one
 record Fine (c : List Part) (i : ℕ) (p : Part) : Type 0 where
@@ -168,7 +172,7 @@ joins = small_sample _ (Bigint ∷ Bigint ∷ []) true (record {
   takes = record { left_in_range = refl; right_in_range = refl; items_in_range = refl; tested = conjunction_suits (Bigint ∷ Bigint ∷ []) [] tt };
   width = refl;
   owned = record { is_view = omega arith; left = λ w e. absurd (cc e); right = λ w e. absurd (cc e) };
-  gives = (refl, (refl, tt));
+  gives = record { exact = Bigint ∷ Bigint ∷ []; of_columns = (refl, (refl, tt)); within = (Same refl, (Same refl, tt)) };
   asks = (λ e. absurd (cc e), λ e. absurd (cc e));
   short = λ _ e. absurd (cc e);
   no_table = refl;
@@ -213,7 +217,7 @@ sums = small_sample _ numbers true (record {
   takes = tt;
   width = (refl, refl);
   owned = record { is_view = omega arith; left = λ w e. absurd (cc e); right = λ w e. absurd (cc e) };
-  gives = (refl, refl);
+  gives = (as_they_are, as_they_are);
   asks = (λ e. absurd (cc e), λ e. absurd (cc e));
   short = λ _. tt;
   no_table = refl;
@@ -228,7 +232,7 @@ differences = small_sample _ numbers false (record {
   takes = tt;
   width = (refl, refl);
   owned = record { is_view = omega arith; left = λ w e. absurd (cc e); right = λ w e. absurd (cc e) };
-  gives = (refl, refl);
+  gives = (as_they_are, as_they_are);
   asks = (λ e. absurd (cc e), λ e. absurd (cc e));
   short = λ _ e. absurd (cc e);
   no_table = refl;
@@ -251,13 +255,13 @@ two_sums_sample = sample two_sums (omega arith) refl (
     (
       record {
         part = record { left_earlier = omega arith; right_earlier = omega arith; in_order = (omega arith, omega arith); takes = tt; width = (refl, refl); owned = record { is_view = omega arith; left = λ w e. absurd (cc e); right = λ w e. absurd (cc e) } };
-        listed = record { gives = (refl, refl); asks = (λ e. absurd (cc e), λ e. absurd (cc e)); short = λ _ _. tt };
+        listed = record { gives = (as_they_are, as_they_are); asks = (λ e. absurd (cc e), λ e. absurd (cc e)); short = λ _ _. tt };
         kinds = λ t is. absurd (cc is);
       },
       (
         record {
           part = record { left_earlier = omega arith; right_earlier = omega arith; in_order = (omega arith, omega arith); takes = tt; width = (refl, refl); owned = record { is_view = omega arith; left = λ w e. absurd (cc e); right = λ w e. absurd (cc e) } };
-          listed = record { gives = (refl, refl); asks = (λ e. absurd (cc e), λ e. absurd (cc e)); short = λ _ _. tt };
+          listed = record { gives = (as_they_are, as_they_are); asks = (λ e. absurd (cc e), λ e. absurd (cc e)); short = λ _ _. tt };
           kinds = λ t is. absurd (cc is);
         },
         (
