@@ -10,18 +10,12 @@ use crate::admit::{first_absent, netted};
 use crate::tables::{changed_tables, no_tables};
 use crate::views::{copies, differences, views_over};
 use crate::{AdmitRefusal, TickRefusal};
-use sq_circuit::Circuit;
+use sq_circuit::{Changes, Circuit};
 use sq_typed::Update;
 use sq_value::NoMemory;
 use sq_zset::ZSet;
 use std::alloc::Global;
 use std::marker::Model;
-
-/// What each view has more or less after a tick than before it, by the number of the view.
-#[derive(Debug, Drop)]
-pub struct Changes {
-    pub views: Vec<ZSet>,
-}
 
 /// A change for each table. Contracts see it as the list of the changes, by the numbers of the tables.
 #[derive(Debug, Drop)]

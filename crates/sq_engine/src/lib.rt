@@ -8,5 +8,5 @@ mod refusal;
 mod tables;
 mod views;
 
-pub use engine::{Changes, Delta, Engine};
+pub use engine::{Delta, Engine};
 pub use refusal::{AdmitRefusal, TickRefusal};
