@@ -1,11 +1,13 @@
 -- What one more part brings, what stays, and two steps as one.
 use Rattle.std.proofs.Common.{◌≡◌, ℕ, zero, suc, ◌<◌, ◌+◌, Bool, true, false, ◌&&◌, ◌||◌, cond, List, [], ◌∷◌, ◌++◌, length, Some, refl, sym, ap, ap₂, subst, ◌∙◌, arith}
 use Rattle.std.specs.Prelude.{slice_get, ◌==◌}
+use Rattle.std.specs.List.{AllByRecursion}
 use Rattle.std.proofs.lemmas.List.{append_assoc, length-append}
 use Rattle.std.proofs.Math.Bool.{or_assoc}
 use Rattle.std.proofs.lemmas.Bool.Decides.{nat_tests}
 use Rattle.std.proofs.lemmas.Option.{slice_get_within}
 use Rattle.sq_expr.specs.declared.expr.Kind.{Kind}
+use Rattle.sq_expr.proofs.Lists.{all_append}
 use Rattle.sq_circuit.specs.Circuits.{fault_of, has_fault, kinds_at, kinds_in, owner_at, owner_in, whole, whole_from}
 use Rattle.sq_circuit.specs.Begun as making
 use Rattle.sq_circuit.specs.Begun.{IsBegun}
@@ -19,7 +21,7 @@ use Rattle.sq_circuit.proofs.Appending.{count_more}
 use Rattle.sq_circuit.proofs.Evaluating.{fault_at, whole_at}
 use Rattle.sq_circuit.proofs.Growing.{fault_more, whole_more}
 use Rattle.sq_circuit.proofs.Making.{begun_earlier, grown, list_more}
-use Rattle.sq_plan.specs.Drafts.{Adds, Appends, IsDraft, IsNext, IsNode, IsThere, blames, blames_view, faulty_behind, is_of, kinds_of, some_below, worth_behind, worth_of}
+use Rattle.sq_plan.specs.Drafts.{Adds, Appends, IsDraft, IsNext, IsNode, IsOwnedBy, IsThere, blames, blames_view, faulty_behind, is_of, kinds_of, some_below, worth_behind, worth_of}
 
 some_same : (f g : ℕ → Bool) (n : ℕ) → ((i : ℕ) → i < n → f i ≡ g i) → some_below f n ≡ some_below g n
 some_same f g zero h = refl
@@ -158,6 +160,7 @@ module _ (d e : Draft) (p : Part) (i : ℕ) (g : Appends d e i p) where
       more = p ∷ [];
       is = g.is;
       no_tables = no_table_behind;
+      owned = (next_here.owner, tt);
       few = omega arith;
       draft = g.draft;
       low = node_more d e (p ∷ []) g.is no_table_behind g.draft j low;
@@ -172,6 +175,7 @@ module _ (d e : Draft) (p : Part) (i : ℕ) (g : Appends d e i p) where
       more = p ∷ [];
       is = g.is;
       no_tables = no_table_behind;
+      owned = (next_here.owner, tt);
       few = omega arith;
       draft = g.draft;
       low = record { there = appended_there; list = list };
@@ -184,6 +188,9 @@ module _ (d e : Draft) (p : Part) (i : ℕ) (g : Appends d e i p) where
     adds_one fine = adds_listed (firm fine)
 
 -- ---- two steps as one
+pub owned_both : (v w : ℕ) (ps qs : List Part) → w ≡ v → AllByRecursion (IsOwnedBy v) ps → AllByRecursion (IsOwnedBy w) qs → AllByRecursion (IsOwnedBy v) (ps ++ qs)
+owned_both v w ps qs same h k = all_append (IsOwnedBy v) ps qs h (subst (λ u. AllByRecursion (IsOwnedBy u) qs) same k)
+
 pub adds_then : (n m : ℕ) (c d e : Draft) (i j : ℕ) (ks ls : List Kind) (y z : List Rows → Rows) (f g : List Rows → Bool) →
     Adds n c d i ks y f → Adds m d e j ls z g → Adds (n + m) c e j ls z (λ tables. f tables || g tables)
 adds_then n m c d e i j ks ls y z f g a b = record {
@@ -191,6 +198,7 @@ adds_then n m c d e i j ks ls y z f g a b = record {
   more = a.more ++ b.more;
   is = b.is ∙ ap (λ xs. xs ++ b.more) a.is ∙ append_assoc c.parts.items a.more b.more;
   no_tables = no_tables_in a.more b.more a.no_tables b.no_tables;
+  owned = owned_both c.view d.view a.more b.more a.view a.owned b.owned;
   few = let h = length-append a.more b.more in omega (arith, h, a.few, b.few);
   draft = b.draft;
   low = b.low;
@@ -207,6 +215,7 @@ adds_as n c e i ks ls y z f g same worth fault a = record {
   more = a.more;
   is = a.is;
   no_tables = a.no_tables;
+  owned = a.owned;
   few = a.few;
   draft = a.draft;
   low = a.low;

@@ -27,7 +27,7 @@ use Rattle.sq_plan.specs.Drafts.{CanAdd, IsNode, blames, kinds_of}
 use Rattle.sq_plan.specs.Plans.{CanPlan, CanPlanItems, InFrom, IsSourceOf, Itself, OriginFits, Plans, PlansItems, items_sources, relation_kinds, relation_nodes}
 use Rattle.sq_plan.specs.Steps.{Becomes, sources_of}
 use Rattle.sq_plan.specs.declared.draft.Draft.{Draft}
-use Rattle.sq_plan.proofs.Adding.{no_tables_in}
+use Rattle.sq_plan.proofs.Adding.{no_tables_in, owned_both}
 use Rattle.sq_plan.proofs.Apart.{block_apart, clean, raise}
 use Rattle.sq_plan.proofs.Planning.{length_is, longer_by}
 
@@ -179,6 +179,7 @@ module _ (d : Draft) (nodes : List ℕ) (b : Block) (can : CanPlan d nodes (quer
               more = p.more ++ h.adds.more;
               is = h.adds.is ∙ ap (λ xs. xs ++ h.adds.more) p.is ∙ append_assoc d.parts.items p.more h.adds.more;
               no_tables = no_tables_in p.more h.adds.more p.no_tables h.adds.no_tables;
+              owned = owned_both d.view e.view p.more h.adds.more p.view p.owned h.adds.owned;
               few = let l = length-append p.more h.adds.more in omega (arith, l, total, n, front, p.few, h.adds.few);
               draft = h.adds.draft;
               low = h.adds.low;

@@ -27,7 +27,7 @@ use Rattle.sq_plan.specs.Drafts.{Adds, CanAdd, IsDraft, IsNode, blames, kinds_of
 use Rattle.sq_plan.specs.Plans.{CanPlan, CanPlanOrigin, IsSourceOf, OriginFits, Plans, PlansItems, PlansOrigin, items_sources, relation_kinds, relation_nodes}
 use Rattle.sq_plan.specs.Steps.{Becomes, node_of}
 use Rattle.sq_plan.specs.declared.draft.Draft.{Draft}
-use Rattle.sq_plan.proofs.Adding.{no_tables_in, node_more}
+use Rattle.sq_plan.proofs.Adding.{no_tables_in, node_more, owned_both}
 use Rattle.sq_plan.proofs.Primitives.{adds_none, or_false}
 
 -- ---- what was there before
@@ -71,7 +71,7 @@ pub tighten : (n m : ℕ) (d e : Draft) (i : ℕ) (ks : List Kind) (M : List Row
 tighten n m d e i ks M b le =
     let h = length_is d e (longer_by n d e i ks _ _ b.adds) in
     record {
-      adds = record { view = b.adds.view; more = b.adds.more; is = b.adds.is; no_tables = b.adds.no_tables; few = omega (arith, h, le); draft = b.adds.draft; low = b.adds.low; kinds_are = b.adds.kinds_are; worth = b.adds.worth; blame = b.adds.blame };
+      adds = record { view = b.adds.view; more = b.adds.more; is = b.adds.is; no_tables = b.adds.no_tables; owned = b.adds.owned; few = omega (arith, h, le); draft = b.adds.draft; low = b.adds.low; kinds_are = b.adds.kinds_are; worth = b.adds.worth; blame = b.adds.blame };
       width = b.width;
     }
 
@@ -110,7 +110,7 @@ module _ (d : Draft) (nodes : List ℕ) (o : Origin) (can : CanPlanOrigin d node
       let a = adds_none (40 * origin_sources o) d i can.room.draft (is_there nodes d n x low can.are) (λ tables. (origin_node (relation_nodes d nodes tables) o).rows) (λ tables. ap (λ (m : Node). m.rows) (full tables)) in
       record {
         becomes = record {
-          adds = record { view = a.view; more = a.more; is = a.is; no_tables = a.no_tables; few = a.few; draft = a.draft; low = a.low; kinds_are = sym own; worth = a.worth; blame = λ tables. a.blame tables ∙ ap (λ f. blames d tables || f) (ap (λ (m : Node). m.fault) (full tables)) };
+          adds = record { view = a.view; more = a.more; is = a.is; no_tables = a.no_tables; owned = a.owned; few = a.few; draft = a.draft; low = a.low; kinds_are = sym own; worth = a.worth; blame = λ tables. a.blame tables ∙ ap (λ f. blames d tables || f) (ap (λ (m : Node). m.fault) (full tables)) };
           width = λ tables. ap (λ (m : Node). m.width) (sym (full tables)) ∙ sym (ap length own);
         };
         few = omega (arith, one);
@@ -144,6 +144,7 @@ sources_begin d nodes draft = record {
   more = [];
   is = sym (append-nil d.parts.items);
   no_tables = refl;
+  owned = tt;
   draft = draft;
   stand = tt;
   blame = λ tables. sym (or_false (blames d tables));
@@ -187,6 +188,7 @@ module _ (d e : Draft) (nodes found : List ℕ) (done : List FromItem) (so : Pla
         more = so.more ++ a.more;
         is = a.is ∙ ap (λ xs. xs ++ a.more) so.is ∙ append_assoc d.parts.items so.more a.more;
         no_tables = no_tables_in so.more a.more so.no_tables a.no_tables;
+        owned = owned_both d.view e.view so.more a.more so.view so.owned a.owned;
         draft = a.draft;
         stand = pairs_more (IsSourceOf d g nodes) found done i s
             (pairs_weaker (IsSourceOf d e nodes) (IsSourceOf d g nodes) found done (λ j x h. record { low = still e g long j h.low; kinds = kinds_still e g long j h.low ∙ h.kinds; node = λ tables. node_still e g long j h.low tables ∙ h.node tables }) so.stand)

@@ -31,6 +31,7 @@ adds_none n d i draft low z worth = record {
   more = [];
   is = sym (append-nil d.parts.items);
   no_tables = refl;
+  owned = tt;
   few = omega arith;
   draft = draft;
   low = low;

@@ -44,7 +44,7 @@ pub becomes : (n m : ℕ) (d e : Draft) (i : ℕ) (ks ls : List Kind) (z : List 
 becomes n m d e i ks ls z f M le same width rows fault a =
     let b = adds_as n d e i ks ls z (λ tables. (M tables).rows) f (λ tables. (M tables).fault) same rows fault a in
     record {
-      adds = record { view = b.view; more = b.more; is = b.is; no_tables = b.no_tables; few = omega (arith, b.few, le); draft = b.draft; low = b.low; kinds_are = b.kinds_are; worth = b.worth; blame = b.blame };
+      adds = record { view = b.view; more = b.more; is = b.is; no_tables = b.no_tables; owned = b.owned; few = omega (arith, b.few, le); draft = b.draft; low = b.low; kinds_are = b.kinds_are; worth = b.worth; blame = b.blame };
       width = width;
     }
 

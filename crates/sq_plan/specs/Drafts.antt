@@ -4,9 +4,10 @@
 --     IsDraft d             the parts are a circuit in the making.       CanAdd n d      and there is room for n further ones
 --     blames d tables       a node of the view that is being planned has a fault
 --     IsNext d p            the part p may stand behind those of d.       Appends d e i p      it stands there in e
---     Adds n d e i kinds z f      behind the parts of d stand at most n others of the view; of those the node i has these kinds and
---                           is worth z, and some of them has a fault exactly if f says so
+--     Adds n d e i kinds z f      behind the parts of d stand at most n others, which belong to the view; of those the node i has these
+--                           kinds and is worth z, and some of them has a fault exactly if f says so
 use Rattle.std.specs.Prelude.{◌≡◌, ℕ, zero, suc, ◌+◌, ◌<◌, ◌≤◌, ◌^◌, ◌==◌, Bool, false, ◌&&◌, ◌||◌, List, [], ◌∷◌, ◌++◌, length, Option, Some, None}
+use Rattle.std.specs.List.{AllByRecursion}
 use Rattle.sq_expr.specs.declared.expr.Kind.{Kind}
 use Rattle.sq_circuit.specs.Circuits.{fault_of, has_fault, kinds_at, owner_at, whole, whole_from}
 use Rattle.sq_circuit.specs.Begun as making
@@ -77,11 +78,15 @@ abbrev pub faulty_behind : Draft → Part → List Rows → Bool
 faulty_behind d p tables = fault_of (Some p) (whole_from d.parts.items tables) (worth_behind d p tables)
 
 -- ---- steps
+abbrev pub IsOwnedBy : ℕ → Part → Type 0
+IsOwnedBy v p = p.owner ≡ Some v
+
 pub record Adds (n : ℕ) (d e : Draft) (i : ℕ) (kinds : List Kind) (z : List Rows → Rows) (f : List Rows → Bool) : Type 0 where
   pub view : e.view ≡ d.view
   pub more : List Part
   pub is : e.parts.items ≡ d.parts.items ++ more
   pub no_tables : table_count more ≡ 0
+  pub owned : AllByRecursion (IsOwnedBy d.view) more
   pub few : length more ≤ n
   pub draft : IsDraft e
   pub low : IsNode e i

@@ -22,7 +22,7 @@ use Rattle.sq_typed.specs.declared.query.SetStep.{SetStep}
 use Rattle.sq_typed.specs.Fit.{Fits, Pairwise, are_matched, kinded_origin, kinds_given, source_kinds}
 use Rattle.sq_typed.specs.Sources.{origin_sources, query_sources}
 use Rattle.sq_plan.specs.Blocks.{HasFewGroups}
-use Rattle.sq_plan.specs.Drafts.{CanAdd, IsDraft, IsNode, blames, kinds_of}
+use Rattle.sq_plan.specs.Drafts.{CanAdd, IsDraft, IsNode, IsOwnedBy, blames, kinds_of}
 use Rattle.sq_plan.specs.Steps.{Becomes, node_of, set_kinds, set_of}
 use Rattle.sq_plan.specs.declared.draft.Draft.{Draft}
 
@@ -93,6 +93,7 @@ pub record PlansItems (d e : Draft) (nodes found : List ℕ) (items : List FromI
   pub more : List Part
   pub is : e.parts.items ≡ d.parts.items ++ more
   pub no_tables : table_count more ≡ 0
+  pub owned : AllByRecursion (IsOwnedBy d.view) more
   pub draft : IsDraft e
   pub stand : Pairwise (IsSourceOf d e nodes) found items
   pub blame : (tables : List Rows) → blames e tables ≡ (blames d tables || list_any (λ s. (origin_node (relation_nodes d nodes tables) s.source).fault) items)
