@@ -16,3 +16,8 @@ pub mod Planning
 pub mod BlockPlans
 pub mod ChainPlans
 pub mod QueryLoops
+pub mod RelationsNarrow
+pub mod RelationsBlame
+pub mod RelationsTables
+pub mod RelationsWalk
+pub mod RelationsEnd

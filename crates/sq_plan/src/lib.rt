@@ -8,6 +8,10 @@ mod from;
 mod groups;
 mod keys;
 mod left;
+mod planned;
 mod query;
+mod relations;
 mod sets;
 mod steps;
+
+pub use planned::plan;
