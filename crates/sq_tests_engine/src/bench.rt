@@ -5,7 +5,8 @@ ghost use Rattle.sq_engine.specs.Engines.{moved, with_changes};
 ghost use Rattle.sq_tests_engine.specs.Totals.{AreOfNumbers, IsNew, IsOfNumbers, IsReady};
 
 use crate::circuit::totals_of_numbers;
-use sq_engine::{AdmitRefusal, Changes, Delta, Engine, TickRefusal};
+use sq_circuit::Changes;
+use sq_engine::{AdmitRefusal, Delta, Engine, TickRefusal};
 use sq_typed::Update;
 use sq_value::{NoMemory, Row, Value};
 use std::alloc::Global;

@@ -3,7 +3,8 @@ ghost use Rattle.std.specs.Prelude.{◌≤◌, IfOk, OnOk};
 ghost use Rattle.sq_tests_engine.specs.Totals.{IsReady};
 
 use crate::bench::{Answer, new_engine, start, tick};
-use sq_engine::{Changes, Engine};
+use sq_circuit::Changes;
+use sq_engine::Engine;
 use sq_value::{NoMemory, Row, Value};
 use sq_zset::ZSet;
 use std::alloc::Global;
