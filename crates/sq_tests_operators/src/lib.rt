@@ -17,8 +17,6 @@ mod linears;
 #[cfg(test)]
 mod parts;
 #[cfg(test)]
-mod row_images;
-#[cfg(test)]
 mod rows;
 #[cfg(test)]
 mod streams;

@@ -5,8 +5,7 @@ ghost use Rattle.sq_expr.specs.declared.expr.Kind.TheVariants.{Bigint};
 use crate::rows::{LIMIT, SUM_LIMIT, are_of_kinds, check_row, check_rows, zset_of};
 use sq_expr::{Cmp, Cond, Expr, Kind, Term, suits, suits_cond};
 use sq_linear::{LinearFault, apply_linear};
-use sq_ops::{Keep, Linear, OpFault, Pad, Project};
-use sq_value::Row;
+use sq_ops::{Keep, Linear, Pad, Project};
 use sq_zset::ZSet;
 use sqlite_items::Items;
 use std::alloc::Global;
@@ -197,20 +196,6 @@ fn numbers_are_doubled(rt: HostRuntime) -> Result<(), Fail> {
 }
 
 #[test]
-fn a_value_outside_comes_before_a_weight(rt: HostRuntime) -> Result<(), Fail> {
-    let value = LinearFault::Value {
-        value: 9223372036854775808,
-    };
-    check_fault(
-        &rt,
-        rt.alloc(),
-        Expr::Number(9223372036854775808),
-        &[(1, LIMIT), (2, 1)],
-        value,
-    )
-}
-
-#[test]
 fn rows_are_padded(rt: HostRuntime) -> Result<(), Fail> {
     let alloc = rt.alloc();
     let z = zset_of(alloc, &[(1, 2), (3, -1)])?;
@@ -221,48 +206,4 @@ fn rows_are_padded(rt: HostRuntime) -> Result<(), Fail> {
             Ok(())
         }
     }
-}
-
-// Gives each row twice.
-#[derive(Drop)]
-struct Twice;
-
-impl Linear for Twice {
-    ghost use Rattle.std.specs.Prelude.{[], ◌∷◌, ⊤};
-    ghost use Rattle.sq_ops.specs.Extensions.{images_are_additive};
-
-    ghost images = { λ _ row. row ∷ row ∷ [] };
-
-    ghost suits = { λ _ _. ⊤ };
-
-    ghost tested = { λ _ _. [] };
-
-    fn image(&self, alloc: Global, row: &Row, to: &mut Vec<Row>) -> Result<(), OpFault> {
-        let mut copies = Vec::new(alloc);
-        copies.push(row.clone_row(alloc)?)?;
-        copies.push(row.clone_row(alloc)?)?;
-        to.append(&mut copies)?;
-        Ok(())
-    }
-
-    ghost additive = { λ _. images_are_additive (λ row. row ∷ row ∷ []) };
-}
-
-#[test]
-fn an_operator_of_two_images_doubles_weights(rt: HostRuntime) -> Result<(), Fail> {
-    let alloc = rt.alloc();
-    let z = zset_of(alloc, &[(1, 3), (2, -LIMIT / 2)])?;
-    let answer = apply_on(alloc, &Twice, &z);
-    check_answer(&rt, alloc, answer, &[(1, 6), (2, -LIMIT)])
-}
-
-#[test]
-fn a_doubled_weight_outside_the_range_is_reported(rt: HostRuntime) -> Result<(), Fail> {
-    let alloc = rt.alloc();
-    let above = zset_of(alloc, &[(1, LIMIT / 2 + 1)])?;
-    assert_eq!(rt;
-        fault_of(apply_on(alloc, &Twice, &above)),
-        Some(LinearFault::Weight { sum: SUM_LIMIT + 2 })
-    );
-    Ok(())
 }

@@ -1,4 +1,4 @@
-//! The calls of a `Whole` through its bound, at the types of sq_ops and at one of a test's own.
+//! The calls of a `Whole` through its bound.
 ghost use Rattle.sq_ops.specs.Fits.{FitsRow};
 
 use crate::aggregates::by_first;
@@ -6,7 +6,7 @@ use crate::rows::{check_row, row_of};
 use sq_expr::{Func, Kind, is_of_kinds};
 use sq_ops::{AggSpec, Call, Distinct, Whole, WholeFault};
 use sq_value::{NoMemory, Row};
-use sq_zset::{Group, ZSet};
+use sq_zset::ZSet;
 use sqlite_items::Items;
 use std::alloc::Global;
 use std::process::Abort;
@@ -113,58 +113,4 @@ fn a_global_aggregate_gives_one_row(rt: HostRuntime) -> Result<(), Fail> {
     let alloc = rt.alloc();
     let spec = sum_of_all(alloc)?;
     check_agg(&rt, alloc, &spec, &[Some(4)])
-}
-
-// Gives each row as it is, by a key that all rows share.
-struct Same;
-
-impl Whole for Same {
-    ghost use Rattle.std.specs.Prelude.{[], false, refl, ⊤};
-    ghost use Rattle.sq_ops.specs.Wholes.{sum_of_parts};
-
-    ghost keys = { λ _ _. [] };
-
-    ghost stands = { λ _. false };
-
-    ghost parts = { λ _ _ z. z };
-
-    ghost sums = { λ _ _. [] };
-
-    ghost suits = { λ _ _. ⊤ };
-
-    ghost answers = { λ _ z. sum_of_parts (λ _ y. y) false (λ _. []) z };
-
-    fn key(&self, alloc: Global, _: &Row) -> Result<Row, NoMemory> {
-        Ok(Row::of(Vec::new(alloc)))
-    }
-
-    fn standing(&self) -> bool {
-        false
-    }
-
-    fn part(&self, alloc: Global, _: &Row, z: &ZSet) -> Result<ZSet, WholeFault> {
-        let _ = z.len();
-        let copy = z.clone_group(alloc)?;
-        Ok(copy)
-    }
-
-    ghost adds_up = { λ _ z. refl };
-
-    ghost nothing_for_none = { λ _ c e. refl };
-}
-
-#[tactic(auto, using(sq_ops::proofs::Fitting::row_fits))]
-fn same_part(alloc: Global, row: Row) -> Option<Result<ZSet, WholeFault>> {
-    if is_of_kinds(&row, &[Kind::Bigint]) {
-        Some(part_of_one(alloc, &Same, row))
-    } else {
-        None
-    }
-}
-
-#[test]
-fn an_operator_of_its_own_gives_its_part(rt: HostRuntime) -> Result<(), Fail> {
-    let alloc = rt.alloc();
-    let row = row_of(alloc, &[Some(7)])?;
-    check_part(&rt, alloc, same_part(alloc, row), &[Some(7)])
 }
