@@ -77,6 +77,16 @@ fn texts_are_items(rt: HostRuntime) -> Result<(), Fail> {
     Ok(())
 }
 
+#[test]
+fn numbers_are_items(rt: HostRuntime) -> Result<(), Fail> {
+    let alloc = rt.alloc();
+    let row = row_of(alloc, &[Some(5)])?;
+    assert!(rt;
+        item_on(alloc, &Expr::Column(0), &row, &[Kind::Integer]) == Some(Ok(Value::Int(5)))
+    );
+    Ok(())
+}
+
 // The first column times itself.
 fn square(alloc: Global) -> Result<Expr, Fail> {
     let mut factors = Items::new(alloc);
