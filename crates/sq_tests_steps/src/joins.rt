@@ -5,6 +5,7 @@ ghost use Rattle.sq_expr.specs.declared.expr.Kind.TheVariants.{Bigint};
 ghost use Rattle.sq_ops.specs.JoinLaws.{SuitsPairing};
 ghost use Rattle.sq_tests_steps.specs.Ready.{AreBigints, IsReady};
 
+use crate::drawn::next;
 use crate::rows::{are_of_kinds, is_small, row_of, zset_of};
 use crate::traces::{left_trace, right_trace};
 use sq_base::Steps;
@@ -148,12 +149,6 @@ fn drawn_set(alloc: Global, number: u64) -> Result<ZSet, ZFault> {
         *item = ((bits & 7) as i64, (bits >> 3 & 3) as i64);
     }
     zset_of(alloc, &items)
-}
-
-fn next(number: u64) -> u64 {
-    number
-        .wrapping_mul(6_364_136_223_846_793_005)
-        .wrapping_add(1_442_695_040_888_963_407)
 }
 
 // The step from and to drawn sides, by these key columns.

@@ -3,7 +3,11 @@
 #![tactic(auto)]
 
 #[cfg(test)]
+mod aggregates;
+#[cfg(test)]
 mod distincts;
+#[cfg(test)]
+mod drawn;
 #[cfg(test)]
 mod joins;
 #[cfg(test)]

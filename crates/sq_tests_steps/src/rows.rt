@@ -1,4 +1,4 @@
-//! What the tests share: Z-sets of rows of one number, and tests of their kinds and their size.
+//! What the tests share: Z-sets of rows of one number or of two, and tests of their kinds and their size.
 ghost use Rattle.std.specs.Prelude.{◌*◌, ◌≤◌, ◌^◌, ◌≤ℤ◌, pos, length, IsTrue, OnOk};
 ghost use Rattle.std.specs.List.{All};
 ghost use Rattle.sq_algebra.specs.ZSet.{entries};
@@ -6,6 +6,7 @@ ghost use Rattle.sq_expr.specs.Kinds.{AreOfKinds};
 ghost use Rattle.sq_join.specs.Stepping.{IsSmall};
 ghost use Rattle.sq_zset.specs.Pairs.{mass};
 
+use crate::drawn::Item;
 use sq_expr::{Kind, is_of_kinds};
 use sq_value::{NoMemory, Row, Value};
 use sq_zset::{Pair, ZFault, ZSet};
@@ -38,6 +39,33 @@ pub fn zset_of(alloc: Global, items: &[(i64, i64)]) -> Result<ZSet, ZFault> {
     let mut pairs = Vec::new(alloc);
     for item in items {
         push_row(alloc, item.0, item.1, &mut pairs)?;
+    }
+    ZSet::consolidate(alloc, pairs)
+}
+
+// Puts a row of a number and a number or NULL with the weight behind the pairs.
+fn push_two(alloc: Global, item: Item, pairs: &mut Vec<Pair>) -> Result<(), NoMemory>
+    requires { mass pairs.now.items ≤ length pairs.now.items * 2 ^ 63 }
+    ensures { OnOk result (mass pairs.new.items ≤ length pairs.new.items * 2 ^ 63) }
+{
+    let mut values = Vec::new(alloc);
+    values.push(Value::Int(item.0))?;
+    values.push(match item.1 {
+        Some(number) => Value::Int(number),
+        None => Value::Null,
+    })?;
+    pairs.push(Pair {
+        row: Row::of(values),
+        weight: i128::from(item.2),
+    })?;
+    Ok(())
+}
+
+/// Rows of a number and a number or NULL, with weights.
+pub fn zset_of_two(alloc: Global, items: &[Item]) -> Result<ZSet, ZFault> {
+    let mut pairs = Vec::new(alloc);
+    for item in items {
+        push_two(alloc, *item, &mut pairs)?;
     }
     ZSet::consolidate(alloc, pairs)
 }
