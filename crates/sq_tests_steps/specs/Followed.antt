@@ -15,8 +15,8 @@ use Rattle.sq_agg.specs.Aggregating.{HoldsShown, IsAfter, KeepsAccumulators, Kee
 use Rattle.sq_agg.specs.declared.step.AggChange.{AggChange}
 use Rattle.sq_agg.specs.Kept.{HoldsAccumulators, HoldsArguments, KeptAccumulators, Row, Rows}
 use Rattle.sq_agg.specs.Stepping.{KeptWeights}
-use Rattle.sq_tests_steps.specs.declared.aggregates.Followed.{Followed as Outcome}
-use Rattle.sq_tests_steps.specs.declared.aggregates.Kept.{Kept as Keeping}
+use Rattle.sq_tests_steps.specs.declared.followed.Followed.{Followed as Outcome}
+use Rattle.sq_tests_steps.specs.declared.followed.Kept.{Kept as Keeping}
 
 -- the rows suit the aggregate, and no SUM over them lies outside the range of BIGINT
 pub record AreReady (spec : AggSpec) (z : Rows) : Type 0 where

@@ -7,6 +7,7 @@ ghost use Rattle.sq_ops.specs.Fits.{FitsRows};
 ghost use Rattle.sq_tests_steps.specs.Followed.{Follows, IsCommitted, Stepped};
 
 use crate::drawn::{Item, drawn_changes};
+use crate::followed::{Followed, Kept};
 use crate::rows::{are_of_kinds, is_small, zset_of_two};
 use sq_agg::{Acc, AggChange, agg_step, agg_whole};
 use sq_base::Steps;
@@ -29,23 +30,6 @@ struct Outcome {
     beyond: u64,
     // the steps of the last change
     last: u64,
-}
-
-// Rows, and what an aggregate keeps of them.
-#[derive(Debug, Drop)]
-struct Kept {
-    rows: ZSet,
-    acc: Trace<Acc>,
-    ordered: Trace<i64>,
-    shown: Trace<i64>,
-}
-
-// What is kept after a change, what changed of the answer, and the steps that it took.
-#[derive(Debug, Drop)]
-struct Followed {
-    kept: Kept,
-    change: ZSet,
-    count: u64,
 }
 
 // No rows, of which nothing is kept.

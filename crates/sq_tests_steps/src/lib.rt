@@ -8,6 +8,7 @@ mod aggregates;
 mod distincts;
 #[cfg(test)]
 mod drawn;
+pub mod followed;
 #[cfg(test)]
 mod joins;
 #[cfg(test)]
