@@ -38,6 +38,7 @@ use Rattle.sq_plan.specs.Plans.{relation_kinds}
 use Rattle.sq_plan.specs.Program.{IsPlanOf, IsViewAt, ShowsViews, table_kinds, table_part, tables_from, view_part, views_from}
 use Rattle.sq_plan.specs.ProgramWalk.{IsShown, Stands, Walk}
 use Rattle.sq_plan.specs.declared.draft.Draft.{Draft}
+use Rattle.sq_plan.proofs.KeyedPrograms.{keyed_more}
 use Rattle.sq_plan.proofs.RelationsBlame.{Passing, some_found, some_passes}
 use Rattle.sq_plan.proofs.RelationsTables.{drop_here, drop_past, tables_at, tables_many}
 use Rattle.sq_plan.proofs.RelationsWalk.{tables_are, with_all}
@@ -304,5 +305,6 @@ module _ (p : Meant) (d : Draft) (nodes shown : List ℕ) (t : ℕ) (walk : Walk
     tables = record { many = count_tables; each = table_there };
     views = shows;
     verdict = λ tables hold. verdict_is (map listed tables) ∙ verdicts_are_same p tables (checked_fits p walk.checked) (checked_begins p walk.checked) hold;
+    keyed = keyed_more p c vs walk.keyed (λ j v left right by q at far here node. absurd (let never : op.View (each_view v q here).input v ≡ op.Join left right by = sym (each_view v q here).node ∙ node in cc));
     few = omega (arith, few_nodes, long, many_views, all_tables, walk.count, all_views);
   }

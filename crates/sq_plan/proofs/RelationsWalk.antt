@@ -21,6 +21,8 @@ use Rattle.sq_circuit.specs.Invariant.{AreEarlier}
 use Rattle.sq_circuit.specs.Listed.{is_loose_in}
 use Rattle.sq_circuit.specs.Nodes.{Rows}
 use Rattle.sq_circuit.specs.declared.circuit.Part.{Part}
+use Rattle.sq_circuit.specs.declared.node.Node.TheVariants as node
+use Rattle.sq_circuit.specs.declared.node.Node.TheVariants.{Join}
 use Rattle.sq_circuit.proofs.Alongside.{got_front, got_next}
 use Rattle.sq_circuit.proofs.Appending.{front_or_last}
 use Rattle.sq_circuit.proofs.Evaluating.{whole_at}
@@ -40,15 +42,19 @@ use Rattle.sq_typed.specs.declared.query.Origin.TheOpen.{Origin-F}
 use Rattle.sq_typed.specs.declared.query.Query.{Query}
 use Rattle.sq_typed.proofs.CheckedFits.{checked_fits}
 use Rattle.sq_plan.specs.Drafts.{IsDraft, IsNode, blames_view, kinds_of, worth_of}
+use Rattle.sq_plan.specs.Keyed.{AreKeyed, IsJoinOf, NewJoins}
 use Rattle.sq_plan.specs.Plans.{CanPlan, Plans, relation_kinds, relation_nodes}
 use Rattle.sq_plan.specs.Program.{table_kinds, table_part, tables_from}
 use Rattle.sq_plan.specs.ProgramWalk.{IsNarrowKinds, IsShown, IsView, Stands, Walk, most_nodes}
 use Rattle.sq_plan.specs.Steps.{node_of}
 use Rattle.sq_plan.specs.declared.draft.Draft.{Draft}
 use Rattle.sq_plan.proofs.Adding.{no_tables_in}
+use Rattle.sq_plan.proofs.KeyedPrograms.{kinds_of_more, view_keyed}
+use Rattle.sq_plan.proofs.KeyedSteps.{some_node}
 use Rattle.sq_plan.proofs.Planning.{Longer, length_is, longer_by, nodes_still, relation_nodes_still, relations_still}
 use Rattle.sq_plan.proofs.RelationsBlame.{none_yet, others_still, owners_more}
 use Rattle.sq_plan.proofs.RelationsNarrow.{small_is_narrow}
+use Rattle.sq_plan.proofs.Taking.{take_none}
 use Rattle.sq_plan.proofs.RelationsTables.{drop_here, drop_next, first_left, first_of, kinds_first, kinds_later, tables_at, tables_few, tables_many}
 
 -- ---- a query depends on rows and widths of its relations alone
@@ -92,6 +98,12 @@ are_tables kss i p e =
     let t = tables_are kss 0 i i p e (omega arith) in
     record { node = ap (λ (x : Part). x.node) t.1; place = ap (λ (x : Part). x.place) t.1; owner = ap (λ (x : Part). x.owner) t.1 }
 
+tables_joined : (p : Meant) (kss : List (List Kind)) → AreKeyed p (tables_from 0 kss)
+tables_joined p kss i left right op at =
+    let found = some_node (slice_get (tables_from 0 kss) i) (Join left right op) at in
+    let made = tables_are kss 0 i i found.0 found.1 (omega arith) in
+    absurd (let never : node.Table i ≡ Join left right op = sym (ap (λ (x : Part). x.node) made.1) ∙ found.2 in cc)
+
 pub walk_starts : (p : Meant) → IsChecked p → sources_in p ≤ 2 ^ 20 → (d : Draft) → d.view ≡ 0 → d.parts.items ≡ tables_from 0 (table_kinds p.catalog) → Walk p 0 d [] [] 0
 walk_starts p checked few d view is =
     let kss = table_kinds p.catalog in
@@ -100,7 +112,9 @@ walk_starts p checked few d view is =
       begun = λ views low. subst (IsBegun views d.view) (sym is) (tables_begin views d.view (tables_from 0 kss) (are_tables kss));
       are = tt;
       narrow = tt;
+      kinds = sym (ap (map fit.kinds_of) (take_none p.catalog));
       fits = subst (λ v. ProgramFits [] (drop v p.queries) p.catalog) (sym view) (checked_fits p checked);
+      keyed = subst (AreKeyed p) (sym is) (tables_joined p kss);
       more = [];
       no_tables = refl;
       is = is ∙ sym (append-nil (tables_from 0 kss));
@@ -207,7 +221,9 @@ module _ (p : Meant) (i : ℕ) (d : Draft) (nodes shown : List ℕ) (t : ℕ) (w
       begun = walk.begun;
       are = all_append (IsNode d) nodes (t ∷ []) walk.are (low, tt);
       narrow = subst (AllByRecursion IsNarrowKinds) (sym table_kinds_more) (all_append IsNarrowKinds kss (own_kinds ∷ []) walk.narrow (narrow_here, tt));
+      kinds = table_kinds_more ∙ kinds_of_more p.catalog i r kss found walk.kinds;
       fits = subst (λ ks. ProgramFits ks (drop d.view p.queries) later) (sym table_kinds_more) table_fits;
+      keyed = walk.keyed;
       more = walk.more;
       no_tables = walk.no_tables;
       is = walk.is;
@@ -258,7 +274,7 @@ module _ (p : Meant) (i : ℕ) (d : Draft) (nodes shown : List ℕ) (t : ℕ) (w
         room = record { draft = draft; room = omega (arith, sources_left, walk.few, walk.room) };
       }
 
-      module _ (e : Draft) (input : ℕ) (plans : Plans d e nodes q input) where
+      module _ (e : Draft) (input : ℕ) (plans : Plans d e nodes q input) (joins : NewJoins d e (IsJoinOf kss q)) where
         -- the draft for the next view
         abbrev next : Draft
         next = record { parts = e.parts; view = e.view + 1 }
@@ -361,6 +377,8 @@ module _ (p : Meant) (i : ℕ) (d : Draft) (nodes shown : List ℕ) (t : ℕ) (w
           begun = λ views low. begun_later views e.view (e.view + 1) e.parts.items (plans.becomes.adds.draft.begun views (omega (arith, low))) (omega arith);
           are = nodes_next nodes walk.are;
           narrow = subst (AllByRecursion IsNarrowKinds) (sym view_kinds_more) (all_append IsNarrowKinds kss (own_kinds ∷ []) walk.narrow (narrow_here, tt));
+          kinds = view_kinds_more ∙ kinds_of_more p.catalog i r kss found walk.kinds;
+          keyed = view_keyed p i d e added kss q walk.keyed parts_are plans.becomes.adds.owned at walk.kinds own_fits.0 joins;
           fits = subst (λ ks. ProgramFits ks (drop next.view p.queries) later) (sym view_kinds_more)
               (subst (λ qs. ProgramFits (kss ++ own_kinds ∷ []) qs later) (drop_next p.queries d.view ∙ ap (λ v. drop (v + 1) p.queries) (sym same_view)) view_fits.1);
           more = walk.more ++ added;
@@ -391,5 +409,5 @@ module _ (p : Meant) (i : ℕ) (d : Draft) (nodes shown : List ℕ) (t : ℕ) (w
     pub view_can : CanPlan d nodes q
     view_can = let k = printed_or_not r.kind is_view in one_can p i d nodes shown t walk r found k.0 k.1 q at
 
-    pub view_goes : (e : Draft) (input : ℕ) → Plans d e nodes q input → Walk p (i + 1) (record { parts = e.parts; view = e.view + 1 }) (nodes ++ input ∷ []) (shown ++ input ∷ []) t
-    view_goes e input plans = let k = printed_or_not r.kind is_view in one_goes p i d nodes shown t walk r found k.0 k.1 q at e input plans
+    pub view_goes : (e : Draft) (input : ℕ) → Plans d e nodes q input → NewJoins d e (IsJoinOf (relation_kinds d nodes) q) → Walk p (i + 1) (record { parts = e.parts; view = e.view + 1 }) (nodes ++ input ∷ []) (shown ++ input ∷ []) t
+    view_goes e input plans joins = let k = printed_or_not r.kind is_view in one_goes p i d nodes shown t walk r found k.0 k.1 q at e input plans joins

@@ -21,6 +21,7 @@ use Rattle.sq_typed.specs.Sources.{sources_in}
 use Rattle.sq_typed.specs.Tables.{Tables}
 use Rattle.sq_typed.specs.Views as typed
 use Rattle.sq_typed.specs.Views.{Meant, views}
+use Rattle.sq_plan.specs.Keyed.{AreKeyed}
 
 -- ---- tables
 abbrev pub if_table : RelationKind → List Kind → Option (List Kind)
@@ -65,4 +66,5 @@ pub record IsPlanOf (p : Meant) (c : List Part) : Type 0 where
   pub tables : HasTables p.catalog c
   pub views : (tables : Tables) → TablesAreOfKinds tables p.catalog → ShowsViews c (map listed tables) (views p tables)
   pub verdict : (tables : Tables) → TablesAreOfKinds tables p.catalog → verdict c (map listed tables) ≡ typed.verdict p tables
+  pub keyed : AreKeyed p c
   pub few : length c ≤ 40 * sources_in p + length p.catalog

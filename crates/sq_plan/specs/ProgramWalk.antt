@@ -2,7 +2,7 @@
 --     IsShown d shown tables v n     the node of view v, of those that are shown, holds the rows of n, and the view is to blame if n has a fault
 --     Stands p at d nodes shown t tables      over these tables the nodes stand for the relations so far, and the others decide all views
 --     Walk p at d nodes shown t      so many relations have nodes, of which t are tables and d.view are views
-use Rattle.std.specs.Prelude.{◌≡◌, ℕ, ◌+◌, ◌*◌, ◌<◌, ◌≤◌, ◌^◌, List, ◌++◌, drop, fold, length, map, slice_get, Some, ⊤}
+use Rattle.std.specs.Prelude.{◌≡◌, ℕ, ◌+◌, ◌*◌, ◌<◌, ◌≤◌, ◌^◌, List, ◌++◌, drop, fold, length, map, slice_get, take, Some, ⊤}
 use Rattle.std.specs.List.{AllByRecursion}
 use Rattle.sq_ast.specs.Sources.{sum}
 use Rattle.sq_bridge.specs.Nodes.{Node}
@@ -17,11 +17,13 @@ use Rattle.sq_circuit.specs.Nodes.{Rows}
 use Rattle.sq_circuit.specs.declared.circuit.Part.{Part}
 use Rattle.sq_expr.specs.declared.expr.Kind.{Kind}
 use Rattle.sq_typed.specs.Checked.{IsChecked}
+use Rattle.sq_typed.specs.Fit as fit
 use Rattle.sq_typed.specs.Fit.{ProgramFits}
 use Rattle.sq_typed.specs.Sources.{query_sources, sources_in}
 use Rattle.sq_typed.specs.Views.{Meant}
 use Rattle.sq_typed.specs.declared.limits.TheConstants.{MOST_COLUMNS}
 use Rattle.sq_plan.specs.Drafts.{IsNode, blames_view, worth_of}
+use Rattle.sq_plan.specs.Keyed.{AreKeyed}
 use Rattle.sq_plan.specs.Plans.{relation_kinds, relation_nodes}
 use Rattle.sq_plan.specs.Program.{table_kinds, tables_from}
 use Rattle.sq_plan.specs.declared.draft.Draft.{Draft}
@@ -59,7 +61,9 @@ pub record Walk (p : Meant) (at : ℕ) (d : Draft) (nodes shown : List ℕ) (t :
   pub begun : (views : ℕ) → d.view ≤ views → IsBegun views d.view d.parts.items
   pub are : AllByRecursion (IsNode d) nodes
   pub narrow : AllByRecursion IsNarrowKinds (relation_kinds d nodes)
+  pub kinds : relation_kinds d nodes ≡ map fit.kinds_of (take at p.catalog)
   pub fits : ProgramFits (relation_kinds d nodes) (drop d.view p.queries) (drop at p.catalog)
+  pub keyed : AreKeyed p d.parts.items
   pub more : List Part
   pub is : d.parts.items ≡ tables_from 0 (table_kinds p.catalog) ++ more
   pub no_tables : table_count more ≡ 0

@@ -65,8 +65,9 @@ impl Draft {
         requires room { CanAdd 1 self.old }
         requires next { IsNext self.old (record { node = node; kinds = kinds; place = place; owner = Some self.old.view }) }
         requires list { is_loose node place ≡ false }
-        ensures { let part : Known = record { node = node; kinds = kinds; place = place; owner = Some self.old.view } in
+        ensures adds { let part : Known = record { node = node; kinds = kinds; place = place; owner = Some self.old.view } in
             IfOk result (λ i. Adds 1 self.old self.new i kinds (worth_behind self.old part) (faulty_behind self.old part)) }
+        ensures appends { IfOk result (λ i. Appends self.old self.new i (record { node = node; kinds = kinds; place = place; owner = Some self.old.view })) }
     {
         self.append(node, kinds, place)
     }

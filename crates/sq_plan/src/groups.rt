@@ -3,6 +3,7 @@ ghost use Rattle.std.specs.Prelude.{◌≡◌, ◌++◌, ◌+◌, ◌<◌, ◌^�
 ghost use Rattle.sq_bridge.specs.Groups.{behind, calls_from, group_items, group_spec, item_node, slot};
 ghost use Rattle.sq_plan.specs.Drafts.{CanAdd, IsNode, kinds_of};
 ghost use Rattle.sq_plan.specs.Blocks.{HasFewGroups};
+ghost use Rattle.sq_plan.specs.Keyed.{NewJoins, NoJoin};
 ghost use Rattle.sq_plan.specs.Steps.{Becomes, node_of};
 ghost use Rattle.sq_typed.specs.Fit.{grouped_kinds, grouping_fits, item_row_kinds, may_group};
 ghost use Rattle.sq_typed.specs.Numbered.{call_kind};
@@ -121,7 +122,8 @@ impl Draft {
         requires low { IsNode self.old input }
         requires fits { grouping_fits (kinds_of self.old input) grouping.now ≡ true }
         requires narrow { length grouping.now.columns + length grouping.now.calls + 1 < 2 ^ 32 }
-        ensures { IfOk result (λ i. Becomes 3 self.old self.new i (grouped_kinds (kinds_of self.old input) grouping.now) (λ tables. item_node (Is grouping.now) (node_of self.old tables input))) }
+        ensures adds { IfOk result (λ i. Becomes 3 self.old self.new i (grouped_kinds (kinds_of self.old input) grouping.now) (λ tables. item_node (Is grouping.now) (node_of self.old tables input))) }
+        ensures keyed { IfOk result (λ i. NewJoins self.old self.new NoJoin) }
     {
         let items = group_items(alloc, grouping)?;
         let own = kinds_of(alloc, self.kinds(input), items.as_slice())?;
@@ -144,7 +146,8 @@ impl Draft {
         requires low { IsNode self.old input }
         requires fits { may_group (kinds_of self.old input) grouping.now ≡ true }
         requires narrow { HasFewGroups grouping.now }
-        ensures { IfOk result (λ i. Becomes 3 self.old self.new i (item_row_kinds (kinds_of self.old input) grouping.now) (λ tables. item_node grouping.now (node_of self.old tables input))) }
+        ensures adds { IfOk result (λ i. Becomes 3 self.old self.new i (item_row_kinds (kinds_of self.old input) grouping.now) (λ tables. item_node grouping.now (node_of self.old tables input))) }
+        ensures keyed { IfOk result (λ i. NewJoins self.old self.new NoJoin) }
     {
         match grouping {
             Some(grouping) => self.grouped(alloc, input, grouping),

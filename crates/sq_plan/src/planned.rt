@@ -41,7 +41,8 @@ fn with_views(alloc: Global, parts: Vec<Part>, shown: &[u32]) -> Result<Vec<Part
 
 /// The circuit of a program with at most 2^20 sources. Its tables are the program's, in order, with the kinds of their columns; over tables
 /// that hold rows of these kinds its view nodes hold the rows of the views, and its verdict is the first view that is out of range. It has
-/// at most 40 nodes for each source, and one more for each table and view.
+/// at most 40 nodes for each source, and one more for each table and view. The join of a source has as keys all equalities of two plain
+/// columns, one on each side, among its conditions; every other join has all columns of its right input as keys.
 ///
 /// `NoMemory` comes only from a refused allocation.
 pub fn plan(alloc: Global, program: &Program) -> Result<Circuit, NoMemory>

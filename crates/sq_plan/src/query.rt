@@ -1,6 +1,7 @@
 //! Queries: blocks over what stands in FROM, and set operations.
 ghost use Rattle.std.specs.Prelude.{IfOk};
-ghost use Rattle.sq_plan.specs.Plans.{CanMeet, CanPlan, CanPlanItems, CanPlanOrigin, Meets, Plans, PlansItems, PlansOrigin};
+ghost use Rattle.sq_plan.specs.Keyed.{IsJoinInOrigin, IsJoinInSources, IsJoinOf, NewJoins, NoJoin};
+ghost use Rattle.sq_plan.specs.Plans.{CanMeet, CanPlan, CanPlanItems, CanPlanOrigin, Meets, Plans, PlansItems, PlansOrigin, relation_kinds};
 ghost use Rattle.sq_typed.specs.declared.query.Query.TheVariants as selection;
 
 use crate::draft::Draft;
@@ -13,7 +14,8 @@ impl Draft {
     // The rows of the members so far that one more member has too.
     fn meet(&mut self, alloc: Global, before: Option<u32>, more: u32) -> Result<u32, NoMemory>
         requires { CanMeet self.old before more }
-        ensures { IfOk result (λ i. Meets self.old self.new before more i) }
+        ensures meets { IfOk result (λ i. Meets self.old self.new before more i) }
+        ensures keyed { IfOk result (λ i. NewJoins self.old self.new NoJoin) }
     {
         match before {
             None => Ok(more),
@@ -31,7 +33,8 @@ pub(crate) fn plan_query(
     query: &Query,
 ) -> Result<u32, NoMemory>
     requires { CanPlan draft.old relations.now query.now }
-    ensures { IfOk result (λ i. Plans draft.old draft.new relations.now query.now i) }
+    ensures plans { IfOk result (λ i. Plans draft.old draft.new relations.now query.now i) }
+    ensures keyed { IfOk result (λ i. NewJoins draft.old draft.new (IsJoinOf (relation_kinds draft.old relations.now) query.now)) }
 {
     match query {
         Query::Block(block) => plan_block(alloc, draft, relations, block.get()),
@@ -62,7 +65,8 @@ fn plan_block(
     block: &Block,
 ) -> Result<u32, NoMemory>
     requires { CanPlan draft.old relations.now (selection.Block block.now) }
-    ensures { IfOk result (λ i. Plans draft.old draft.new relations.now (selection.Block block.now) i) }
+    ensures plans { IfOk result (λ i. Plans draft.old draft.new relations.now (selection.Block block.now) i) }
+    ensures keyed { IfOk result (λ i. NewJoins draft.old draft.new (IsJoinOf (relation_kinds draft.old relations.now) (selection.Block block.now))) }
 {
     let sources = plan_sources(alloc, draft, relations, &block.sources)?;
     draft.block(alloc, &sources, block)
@@ -77,7 +81,8 @@ fn plan_sources(
     items: &Items<FromItem>,
 ) -> Result<Vec<u32>, NoMemory>
     requires { CanPlanItems draft.old relations.now items.now }
-    ensures { IfOk result (λ found. PlansItems draft.old draft.new relations.now found.items items.now) }
+    ensures plans { IfOk result (λ found. PlansItems draft.old draft.new relations.now found.items items.now) }
+    ensures keyed { IfOk result (λ i. NewJoins draft.old draft.new (IsJoinInSources (relation_kinds draft.old relations.now) items.now)) }
 {
     let mut found = Vec::new(alloc);
     for item in items.as_slice() {
@@ -96,7 +101,8 @@ fn plan_origin(
     origin: &Origin,
 ) -> Result<u32, NoMemory>
     requires { CanPlanOrigin draft.old relations.now origin.now }
-    ensures { IfOk result (λ i. PlansOrigin draft.old draft.new relations.now origin.now i) }
+    ensures plans { IfOk result (λ i. PlansOrigin draft.old draft.new relations.now origin.now i) }
+    ensures keyed { IfOk result (λ i. NewJoins draft.old draft.new (IsJoinInOrigin (relation_kinds draft.old relations.now) origin.now)) }
 {
     match origin {
         Origin::Relation(number) => Ok(relations[*number as usize]),

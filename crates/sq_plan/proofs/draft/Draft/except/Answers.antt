@@ -5,34 +5,39 @@ use Rattle.sq_plan.specs.Drafts.{kinds_of}
 use Rattle.sq_plan.proofs.Giving.{matched_length}
 use Rattle.sq_plan.proofs.Primitives.{if_ok}
 use Rattle.sq_plan.proofs.Stepping.{except_is, in_second, second_once, sides_alike, sides_give, sides_narrow}
+use Rattle.sq_plan.proofs.KeyedSteps.{joins_then}
+use Rattle.sq_plan.specs.Keyed.{NoJoin}
 use Rattle.sq_plan.proofs.draft.Draft.except.Goals as goal
 
 pub wider_kinds-requires : goal.wider_kinds-requires
 wider_kinds-requires c = ap length c.kinds-2.ensures ∙ matched_length (kinds_of c.args.self.now c.args.left) (kinds_of c.args.self.now c.args.right) c.requires.alike ∙ sym (ap length c.kinds.ensures)
 
 pub once-requires-2-clause-low : goal.once-requires-2-clause-low
-once-requires-2-clause-low c = stays_node 1 c.args.self.now c.once.new.self c.in_ok-rows.rows _ _ _ c.in_ok-rows.ensures c.args.right c.requires.low_right
+once-requires-2-clause-low c = stays_node 1 c.args.self.now c.once.new.self c.in_ok-rows.rows _ _ _ c.in_ok-rows.ensures.adds c.args.right c.requires.low_right
 
 pub rest-requires-clause-low_left : goal.rest-requires-clause-low_left
 rest-requires-clause-low_left c = in_second c.args.self.now c.args.left c.args.right c.in_ok-kinds.kinds (c.in_ok-kinds.ensures ∙ ap₂ wider_kinds c.kinds.ensures c.kinds-2.ensures) c.requires.alike
-    c.requires.low_left c.requires.low_right c.once.new.self c.once-2.new.self c.in_ok-rows.rows c.in_ok-others.others c.in_ok-rows.ensures c.in_ok-others.ensures
+    c.requires.low_left c.requires.low_right c.once.new.self c.once-2.new.self c.in_ok-rows.rows c.in_ok-others.others c.in_ok-rows.ensures.adds c.in_ok-others.ensures.adds
 
 pub rest-requires-clause-alike : goal.rest-requires-clause-alike
 rest-requires-clause-alike c = sides_alike c.args.self.now c.args.left c.args.right c.in_ok-kinds.kinds (c.in_ok-kinds.ensures ∙ ap₂ wider_kinds c.kinds.ensures c.kinds-2.ensures) c.requires.alike
-    c.requires.low_left c.requires.low_right c.once.new.self c.once-2.new.self c.in_ok-rows.rows c.in_ok-others.others c.in_ok-rows.ensures c.in_ok-others.ensures
+    c.requires.low_left c.requires.low_right c.once.new.self c.once-2.new.self c.in_ok-rows.rows c.in_ok-others.others c.in_ok-rows.ensures.adds c.in_ok-others.ensures.adds
 
 pub rest-requires-clause-once : goal.rest-requires-clause-once
 rest-requires-clause-once c = second_once c.args.self.now c.args.left c.args.right c.in_ok-kinds.kinds (c.in_ok-kinds.ensures ∙ ap₂ wider_kinds c.kinds.ensures c.kinds-2.ensures) c.requires.alike
-    c.requires.low_left c.requires.low_right c.once.new.self c.once-2.new.self c.in_ok-rows.rows c.in_ok-others.others c.in_ok-rows.ensures c.in_ok-others.ensures
+    c.requires.low_left c.requires.low_right c.once.new.self c.once-2.new.self c.in_ok-rows.rows c.in_ok-others.others c.in_ok-rows.ensures.adds c.in_ok-others.ensures.adds
 
 pub rest-requires-clause-give : goal.rest-requires-clause-give
 rest-requires-clause-give c = sides_give c.args.self.now c.args.left c.args.right c.in_ok-kinds.kinds (c.in_ok-kinds.ensures ∙ ap₂ wider_kinds c.kinds.ensures c.kinds-2.ensures) c.requires.alike
-    c.requires.low_left c.requires.low_right c.once.new.self c.once-2.new.self c.in_ok-rows.rows c.in_ok-others.others c.in_ok-rows.ensures c.in_ok-others.ensures
+    c.requires.low_left c.requires.low_right c.once.new.self c.once-2.new.self c.in_ok-rows.rows c.in_ok-others.others c.in_ok-rows.ensures.adds c.in_ok-others.ensures.adds
 
 pub rest-requires-clause-narrow : goal.rest-requires-clause-narrow
 rest-requires-clause-narrow c = sides_narrow c.args.self.now c.args.left c.args.right c.in_ok-kinds.kinds (c.in_ok-kinds.ensures ∙ ap₂ wider_kinds c.kinds.ensures c.kinds-2.ensures) c.requires.alike
-    c.requires.low_left c.requires.low_right c.once.new.self c.once-2.new.self c.in_ok-rows.rows c.in_ok-others.others c.in_ok-rows.ensures c.in_ok-others.ensures c.requires.narrow
+    c.requires.low_left c.requires.low_right c.once.new.self c.once-2.new.self c.in_ok-rows.rows c.in_ok-others.others c.in_ok-rows.ensures.adds c.in_ok-others.ensures.adds c.requires.narrow
 
-pub returns : goal.returns
-returns c = if_ok c.rest.result _ _ (λ i h. except_is c.args.self.now c.args.left c.args.right c.in_ok-kinds.kinds (c.in_ok-kinds.ensures ∙ ap₂ wider_kinds c.kinds.ensures c.kinds-2.ensures) c.requires.alike
-    c.requires.low_left c.requires.low_right c.once.new.self c.once-2.new.self c.in_ok-rows.rows c.in_ok-others.others c.in_ok-rows.ensures c.in_ok-others.ensures c.rest.new.self i h) c.rest.ensures
+pub returns-clause-adds : goal.returns-clause-adds
+returns-clause-adds c = if_ok c.rest.result _ _ (λ i h. except_is c.args.self.now c.args.left c.args.right c.in_ok-kinds.kinds (c.in_ok-kinds.ensures ∙ ap₂ wider_kinds c.kinds.ensures c.kinds-2.ensures) c.requires.alike
+    c.requires.low_left c.requires.low_right c.once.new.self c.once-2.new.self c.in_ok-rows.rows c.in_ok-others.others c.in_ok-rows.ensures.adds c.in_ok-others.ensures.adds c.rest.new.self i h) c.rest.ensures.adds
+
+pub returns-clause-keyed : goal.returns-clause-keyed
+returns-clause-keyed c = if_ok c.rest.result _ _ (λ i h. joins_then c.args.self.now c.once-2.new.self c.rest.new.self NoJoin (joins_then c.args.self.now c.once.new.self c.once-2.new.self NoJoin c.in_ok-rows.ensures.keyed c.in_ok-others.ensures.keyed) h) c.rest.ensures.keyed

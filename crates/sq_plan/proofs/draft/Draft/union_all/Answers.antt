@@ -15,5 +15,5 @@ plus-requires-clause-give_left c = give_left c.args.self.now c.args.left c.args.
 pub plus-requires-clause-give_right : goal.plus-requires-clause-give_right
 plus-requires-clause-give_right c = give_right c.args.self.now c.args.left c.args.right c.in_ok-kinds.kinds (c.in_ok-kinds.ensures ∙ ap₂ wider_kinds c.kinds.ensures c.kinds-2.ensures) c.requires.alike
 
-pub returns : goal.returns
-returns c = if_ok c.plus.result _ _ (λ i a. union_all_is c.args.self.now c.args.left c.args.right c.in_ok-kinds.kinds (c.in_ok-kinds.ensures ∙ ap₂ wider_kinds c.kinds.ensures c.kinds-2.ensures) c.requires.alike c.plus.new.self i a) c.plus.ensures
+pub returns-clause-adds : goal.returns-clause-adds
+returns-clause-adds c = if_ok c.plus.result _ _ (λ i a. union_all_is c.args.self.now c.args.left c.args.right c.in_ok-kinds.kinds (c.in_ok-kinds.ensures ∙ ap₂ wider_kinds c.kinds.ensures c.kinds-2.ensures) c.requires.alike c.plus.new.self i a) c.plus.ensures.adds

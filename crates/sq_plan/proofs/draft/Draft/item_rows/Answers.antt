@@ -1,0 +1,6 @@
+use Rattle.sq_plan.proofs.KeyedSteps.{nothing_joined}
+use Rattle.sq_plan.specs.Keyed.{NoJoin}
+use Rattle.sq_plan.proofs.draft.Draft.item_rows.Goals as goal
+
+pub returns-in-None-clause-keyed : goal.returns-in-None-clause-keyed
+returns-in-None-clause-keyed c = nothing_joined c.args.self.now NoJoin
