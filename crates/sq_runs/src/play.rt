@@ -74,7 +74,7 @@ fn call<R: Threads + Sync>(
         Some(workers) => {
             let workers = workers.clamp(1, 64) as u32;
             let limit = limit.unwrap_or(LONGEST_INPUT).min(LONGEST_INPUT);
-            serve(rt, alloc, input, out, err, &FreeGate, workers, limit)
+            serve(rt, alloc, input, out, err, &FreeGate, workers, limit).status
         }
         None => top(rt, alloc, words, input, out, err, &FreeGate),
     }

@@ -1,26 +1,32 @@
 -- What stays true from line to line of a run.
 use Rattle.std.specs.Prelude.{◌||◌, cond}
 use Rattle.std.proofs.Common.{◌≡◌, ℕ, ◌+◌, ◌<◌, ◌≤◌, List, [], ◌∷◌, ◌++◌, length, take, Bool, true, false, Option, Some, None, refl, sym, ap, subst, ◌∙◌, arith, append-nil, append_assoc, length-append}
-use Rattle.std.specs.List.{list_any}
+use Rattle.std.specs.List.{list_all, list_any}
 use Rattle.std.specs.Io.KnownBytes.{Appends, Keeps}
 use Rattle.std.proofs.lemmas.List.Folds.{list_any-append}
 use Rattle.std.proofs.Math.Seq.{take-append_seam, take-append-add}
 use Rattle.std.proofs.lemmas.List.{take-append-le}
-use Rattle.sq_lines.specs.Lines.{decoded, is_commit}
+use Rattle.sq_engine.specs.Engines.{State}
+use Rattle.sq_lines.specs.Lines.{decoded, is_blank, is_commit}
 use Rattle.sq_lines.specs.declared.line.Line.{Line}
 use Rattle.sq_typed.specs.Views.{shown}
-use Rattle.sq_typed.specs.From.{Row}
+use Rattle.sq_typed.specs.Tables.{Tables}
 use Rattle.sq_typed.specs.Views.{Meant}
-use Rattle.sq_top.proofs.Reports.{still_begins, some_ticks}
+use Rattle.sq_print.specs.declared.refusal.Refusal.TheVariants.{Unfinished}
+use Rattle.sq_top.proofs.Reports.{still_begins, still_end, some_ticks}
+use Rattle.sq_top.specs.declared.play.Played.{Played}
 use Rattle.sq_top.specs.declared.run.Run.{Run}
 use Rattle.sq_top.specs.declared.run.Stop.{Stop}
 use Rattle.sq_top.specs.declared.run.Stop.TheVariants.{Memory, Write}
+use Rattle.sq_top.specs.Judgements.{first_text}
+use Rattle.sq_top.specs.Over.{IsOver}
 use Rattle.sq_top.specs.Lines.{lines_of}
 use Rattle.sq_top.specs.Relations.{empty_tables}
-use Rattle.sq_top.specs.Ticks.{Report, accepted, is_refusal, lines_from, reports_from, ticks_of}
-use Rattle.sq_top.specs.Texts.{tick_text, change_text}
+use Rattle.sq_top.specs.Sums.{tables_now}
+use Rattle.sq_top.specs.Ticks.{Report, accepted, refused, outcome, is_refusal, lines_from, reports_from, tables_after, ticks_of}
+use Rattle.sq_top.specs.Texts.{tick_text}
 use Rattle.sq_top.specs.Output.{reports, texts_from}
-use Rattle.sq_top.specs.Runs.{in_front, still, brought, played, IsStart, Stands, Stopped, StoppedWithin}
+use Rattle.sq_top.specs.Runs.{in_front, still, brought, Goes, IsAt, IsEnded, IsLeft, IsStart, Stopped, StoppedWithin}
 
 pub appends_chain : (x y z : Option (List ℕ)) (a b : List ℕ) → Appends x y a → Appends y z b → Appends x z (a ++ b)
 appends_chain None y z a b p q = tt
@@ -46,21 +52,28 @@ in_front_none (tick ∷ ticks) some = refl
 take_within : (front text rest : List ℕ) (n : ℕ) → n ≤ length text → take (length front + n) (front ++ (text ++ rest)) ≡ front ++ take n text
 take_within front text rest n le = take-append-add front (text ++ rest) n ∙ ap (λ t. front ++ t) (take-append-le n text rest le)
 
--- some ticks are told, and others are left
-pub record Going (p : Meant) (all : List Report) (taken now : Option (List ℕ)) (before after : ℕ) (run : Run) (left : List Report) : Type 0 where
+-- some ticks are told, which leave these tables, and others are left
+pub record Going (p : Meant) (all : List Report) (taken now : Option (List ℕ)) (before after : ℕ) (lists : Tables) (run : Run) (left : List Report) : Type 0 where
   pub done : List Report
   pub parts : all ≡ done ++ left
   pub told : Appends taken now (texts_from p 0 done)
+  pub tables : lists ≡ tables_now (empty_tables p.catalog) done
   pub tick : run.tick ≡ length done
   pub refused : run.refused ≡ list_any (λ r. is_refusal r.1) done
   pub later : before ≤ after
 
--- all that a loop over the lines keeps; the next line has this number
-pub record Going_on (p : Meant) (lines rest : List ℕ) (next : ℕ) (taken now : Option (List ℕ)) (before after : ℕ) (run : Run) : Type 0 where
-  pub going : Going p (reports p (lines_of lines)) taken now before after run (still p run (lines_from p.catalog next (lines_of rest)))
-  pub stands : Stands p run
-  pub number : next + length rest ≤ length lines + 1
-  pub tick : run.tick ≤ next
+-- all that a loop over the lines keeps
+pub record Going_on (p : Meant) (lines rest : List ℕ) (count : ℕ) (taken now : Option (List ℕ)) (before after : ℕ) (lists : Tables) (run : Run) : Type 0 where
+  pub going : Going p (reports p (lines_of lines)) taken now before after lists run (still p lists run.lines.items (lines_from p.catalog (run.read + 1) (lines_of rest)))
+  pub stands : IsAt p lists run
+  pub shards : run.engine.shards ≡ count
+  pub number : run.read + length rest ≤ length lines
+  pub tick : run.tick ≤ run.read + 1
+
+-- the tables that some ticks leave, and then more
+pub tables_now-append : (tables : Tables) (xs ys : List Report) → tables_now tables (xs ++ ys) ≡ tables_now (tables_now tables xs) ys
+tables_now-append tables [] ys = refl
+tables_now-append tables (x ∷ xs) ys = tables_now-append (tables_after tables x.1) xs ys
 
 module _ (p : Meant) where
   -- the texts of some ticks, and then of more
@@ -72,34 +85,36 @@ module _ (p : Meant) where
       ∙ sym (append_assoc (tick_text p n x.0 x.1) (texts_from p (n + 1) xs) (texts_from p (n + length {A = Report} (x ∷ xs)) ys))
 
   -- block 0 is told, and all ticks are left
-  pub going_start : (lines : List (List ℕ)) (seen : List (List Row)) (taken now : Option (List ℕ)) (before after : ℕ) (run : Run)
-      → seen ≡ shown p (empty_tables p.catalog) → IsStart p run → Appends taken now (change_text p.catalog [] seen 0) → before ≤ after
-      → Going p (reports p lines) taken now before after run (still p run (lines_from p.catalog 1 lines))
-  going_start lines seen taken now before after run is start told later =
+  pub going_start : (lines : List (List ℕ)) (taken now : Option (List ℕ)) (before after : ℕ) (engine : State) (run : Run)
+      → IsStart p engine run → Appends taken now (first_text p) → before ≤ after
+      → Going p (reports p lines) taken now before after (empty_tables p.catalog) run (still p (empty_tables p.catalog) run.lines.items (lines_from p.catalog (run.read + 1) lines))
+  going_start lines taken now before after engine run start told later =
+      let one : run.read + 1 ≡ 1 = omega (arith, start.read) in
       record {
         done = ([], accepted (empty_tables p.catalog)) ∷ [];
-        parts = rw (start.tables, start.lines) (rw (in_front_none (ticks_of (lines_from p.catalog 1 lines)) (some_ticks (lines_from p.catalog 1 lines))) refl);
-        told = subst (Appends taken now) (ap (λ rows. change_text p.catalog [] rows 0) is ∙ sym (append-nil (change_text p.catalog [] (shown p (empty_tables p.catalog)) 0))) told;
+        parts = rw (start.lines, one) (rw (in_front_none (ticks_of (lines_from p.catalog 1 lines)) (some_ticks (lines_from p.catalog 1 lines))) refl);
+        told = subst (Appends taken now) (sym (append-nil (first_text p))) told;
+        tables = refl;
         tick = start.tick;
         refused = start.refused;
         later = later;
       }
 
   -- what is left begins with the next line
-  pub going_at : (all : List Report) (taken now : Option (List ℕ)) (before after : ℕ) (run : Run) (number : ℕ) (rest next more : List ℕ) (line : Line)
-      → Going p all taken now before after run (still p run (lines_from p.catalog number (lines_of rest))) → lines_of rest ≡ next ∷ lines_of more
+  pub going_at : (all : List Report) (taken now : Option (List ℕ)) (before after : ℕ) (lists : Tables) (run : Run) (number : ℕ) (rest next more : List ℕ) (line : Line)
+      → Going p all taken now before after lists run (still p lists run.lines.items (lines_from p.catalog number (lines_of rest))) → lines_of rest ≡ next ∷ lines_of more
       → line ≡ decoded p.catalog number next
-      → Going p all taken now before after run (still p run (line ∷ lines_from p.catalog (number + 1) (lines_of more)))
-  going_at all taken now before after run number rest next more line g lines e =
-      subst (λ ls. Going p all taken now before after run (still p run ls))
+      → Going p all taken now before after lists run (still p lists run.lines.items (line ∷ lines_from p.catalog (number + 1) (lines_of more)))
+  going_at all taken now before after lists run number rest next more line g lines e =
+      subst (λ ls. Going p all taken now before after lists run (still p lists run.lines.items ls))
       (ap (lines_from p.catalog number) lines ∙ ap (λ l. l ∷ lines_from p.catalog (number + 1) (lines_of more)) (sym e)) g
 
   -- no line is left
-  pub going_end : (all : List Report) (taken now : Option (List ℕ)) (before after : ℕ) (run : Run) (number : ℕ) (rest : List ℕ)
-      → Going p all taken now before after run (still p run (lines_from p.catalog number (lines_of rest))) → rest ≡ []
-      → Going p all taken now before after run (still p run [])
-  going_end all taken now before after run number rest g e =
-      subst (λ bs. Going p all taken now before after run (still p run (lines_from p.catalog number (lines_of bs)))) e g
+  pub going_end : (all : List Report) (taken now : Option (List ℕ)) (before after : ℕ) (lists : Tables) (run : Run) (number : ℕ) (rest : List ℕ)
+      → Going p all taken now before after lists run (still p lists run.lines.items (lines_from p.catalog number (lines_of rest))) → rest ≡ []
+      → Going p all taken now before after lists run (still p lists run.lines.items [])
+  going_end all taken now before after lists run number rest g e =
+      subst (λ bs. Going p all taken now before after lists run (still p lists run.lines.items (lines_from p.catalog number (lines_of bs)))) e g
 
   told_more : (done more : List Report) (n : ℕ) (taken now next : Option (List ℕ)) → n ≡ length done → Appends taken now (texts_from p 0 done)
       → Appends now next (texts_from p n more) → Appends taken next (texts_from p 0 (done ++ more))
@@ -108,35 +123,42 @@ module _ (p : Meant) where
       (appends_chain taken now next (texts_from p 0 done) (texts_from p n more) told went)
 
   -- one more line is taken
-  pub going_line : (all : List Report) (taken now next : Option (List ℕ)) (before after last : ℕ) (run more : Run) (line : Line) (later : List Line)
-      → Going p all taken now before after run (still p run (line ∷ later))
-      → still p run (line ∷ later) ≡ brought p run line ++ still p more later
-      → Appends now next (texts_from p run.tick (brought p run line)) → after ≤ last
-      → more.tick ≡ run.tick + length (brought p run line)
-      → more.refused ≡ (run.refused || list_any (λ r. is_refusal r.1) (brought p run line))
-      → Going p all taken next before last more (still p more later)
-  going_line all taken now next before after last run more line later g split told since tick refused = record {
-    done = g.done ++ brought p run line;
-    parts = g.parts ∙ ap (λ t. g.done ++ t) split ∙ sym (append_assoc g.done (brought p run line) (still p more later));
-    told = told_more g.done (brought p run line) run.tick taken now next g.tick g.told told;
-    tick = tick ∙ ap (λ n. n + length (brought p run line)) g.tick ∙ sym (length-append g.done (brought p run line));
-    refused = refused ∙ ap (λ b. b || list_any (λ r. is_refusal r.1) (brought p run line)) g.refused ∙ sym (list_any-append (λ r. is_refusal r.1) g.done (brought p run line));
-    later = omega (arith, g.later);
-  }
+  pub going_line : (all : List Report) (taken now next : Option (List ℕ)) (before after last : ℕ) (lists : Tables) (run : Run) (line : Line) (later : List Line) (moved : Tables) (more : Run)
+      → Going p all taken now before after lists run (still p lists run.lines.items (line ∷ later)) → Goes p lists run line moved more
+      → Appends now next (texts_from p run.tick (brought p lists run.lines.items line)) → after ≤ last
+      → Going p all taken next before last moved more (still p moved more.lines.items later)
+  going_line all taken now next before after last lists run line later moved more g goes told since =
+      let come = brought p lists run.lines.items line in
+      record {
+        done = g.done ++ come;
+        parts = g.parts ∙ ap (λ t. g.done ++ t) (goes.still later) ∙ sym (append_assoc g.done come (still p moved more.lines.items later));
+        told = told_more g.done come run.tick taken now next g.tick g.told told;
+        tables = goes.tables ∙ ap (λ t. tables_now t come) g.tables ∙ sym (tables_now-append (empty_tables p.catalog) g.done come);
+        tick = goes.tick ∙ ap (λ n. n + length come) g.tick ∙ sym (length-append g.done come);
+        refused = goes.refused ∙ ap (λ b. b || list_any (λ r. is_refusal r.1) come) g.refused ∙ sym (list_any-append (λ r. is_refusal r.1) g.done come);
+        later = omega (arith, g.later);
+      }
+
+  -- the number of the next line, said by the run that has read it
+  pub going_next : (all : List Report) (taken now : Option (List ℕ)) (before after : ℕ) (lists : Tables) (run : Run) (waiting : List Line) (number : ℕ) (lines : List (List ℕ))
+      → number ≡ run.read + 1 → Going p all taken now before after lists run (still p lists waiting (lines_from p.catalog number lines))
+      → Going p all taken now before after lists run (still p lists waiting (lines_from p.catalog (run.read + 1) lines))
+  going_next all taken now before after lists run waiting number lines is g =
+      subst (λ n. Going p all taken now before after lists run (still p lists waiting (lines_from p.catalog n lines))) is g
 
   -- want of memory leaves the whole texts of the ticks so far
-  pub going_memory : (all : List Report) (taken now : Option (List ℕ)) (before after : ℕ) (run : Run) (left : List Report)
-      → Going p all taken now before after run left → StoppedWithin p taken now before after all Memory
-  going_memory all taken now before after run left g =
+  pub going_memory : (all : List Report) (taken now : Option (List ℕ)) (before after : ℕ) (lists : Tables) (run : Run) (left : List Report)
+      → Going p all taken now before after lists run left → StoppedWithin p taken now before after all Memory
+  going_memory all taken now before after lists run left g =
       (length g.done, rw g.parts (rw (take-append_seam g.done left) g.told))
 
   -- a text that stopped leaves the whole texts of the ticks so far, and a prefix of its own
-  pub going_stop : (all : List Report) (taken now next : Option (List ℕ)) (before after last : ℕ) (run : Run) (text rest : List Report) (stop : Stop)
-      → Going p all taken now before after run (text ++ rest) → after ≤ last
+  pub going_stop : (all : List Report) (taken now next : Option (List ℕ)) (before after last : ℕ) (lists : Tables) (run : Run) (text rest : List Report) (stop : Stop)
+      → Going p all taken now before after lists run (text ++ rest) → after ≤ last
       → Stopped now next after last (texts_from p run.tick text) stop → StoppedWithin p taken next before last all stop
-  going_stop all taken now next before after last run text rest Memory g since kept =
+  going_stop all taken now next before after last lists run text rest Memory g since kept =
       (length g.done, rw g.parts (rw (take-append_seam g.done (text ++ rest)) (appends_keeps taken now next (texts_from p 0 g.done) g.told kept)))
-  going_stop all taken now next before after last run text rest Write g since went =
+  going_stop all taken now next before after last lists run text rest Write g since went =
       let n = went.1.0 in
       let whole : texts_from p 0 all ≡ texts_from p 0 g.done ++ (texts_from p run.tick text ++ texts_from p (run.tick + length text) rest) =
       ap (texts_from p 0) g.parts ∙ texts_from-append 0 g.done (text ++ rest)
@@ -152,25 +174,26 @@ module _ (p : Meant) where
       )
 
   -- the next line stopped
-  pub line_stop : (all : List Report) (taken now next : Option (List ℕ)) (before after last : ℕ) (run : Run) (line : Line) (later : List Line) (stop : Stop)
-      → Going p all taken now before after run (still p run (line ∷ later)) → after ≤ last
-      → Stopped now next after last (texts_from p run.tick (brought p run line)) stop → StoppedWithin p taken next before last all stop
-  line_stop all taken now next before after last run line later stop g since stopped =
-      let split = still_begins p run line later in
-      going_stop all taken now next before after last run (brought p run line) split.0 stop (subst (Going p all taken now before after run) split.1 g) since stopped
+  pub line_stop : (all : List Report) (taken now next : Option (List ℕ)) (before after last : ℕ) (lists : Tables) (run : Run) (line : Line) (later : List Line) (stop : Stop)
+      → Going p all taken now before after lists run (still p lists run.lines.items (line ∷ later)) → after ≤ last
+      → Stopped now next after last (texts_from p run.tick (brought p lists run.lines.items line)) stop → StoppedWithin p taken next before last all stop
+  line_stop all taken now next before after last lists run line later stop g since stopped =
+      let split = still_begins p lists run.lines.items line later in
+      going_stop all taken now next before after last lists run (brought p lists run.lines.items line) split.0 stop (subst (Going p all taken now before after lists run) split.1 g) since stopped
 
   -- the end stopped
-  pub end_stop : (all : List Report) (taken now next : Option (List ℕ)) (before after last : ℕ) (run : Run) (left : List Report) (stop : Stop)
-      → Going p all taken now before after run left → after ≤ last
+  pub end_stop : (all : List Report) (taken now next : Option (List ℕ)) (before after last : ℕ) (lists : Tables) (run : Run) (left : List Report) (stop : Stop)
+      → Going p all taken now before after lists run left → after ≤ last
       → Stopped now next after last (texts_from p run.tick left) stop → StoppedWithin p taken next before last all stop
-  end_stop all taken now next before after last run left stop g since stopped =
-      going_stop all taken now next before after last run left [] stop (subst (Going p all taken now before after run) (sym (append-nil left)) g) since stopped
+  end_stop all taken now next before after last lists run left stop g since stopped =
+      going_stop all taken now next before after last lists run left [] stop (subst (Going p all taken now before after lists run) (sym (append-nil left)) g) since stopped
 
-  first_text_stop : (lines : List (List ℕ)) (taken now : Option (List ℕ)) (before after : ℕ) (stop : Stop)
-      → Stopped taken now before after (change_text p.catalog [] (shown p (empty_tables p.catalog)) 0) stop → StoppedWithin p taken now before after (reports p lines) stop
-  first_text_stop lines taken now before after Memory kept = (0, keeps_nothing taken now kept)
-  first_text_stop lines taken now before after Write went =
-      let first = change_text p.catalog [] (shown p (empty_tables p.catalog)) 0 in
+  -- block 0 stopped
+  pub first_stop : (lines : List (List ℕ)) (taken now : Option (List ℕ)) (before after : ℕ) (stop : Stop)
+      → Stopped taken now before after (first_text p) stop → StoppedWithin p taken now before after (reports p lines) stop
+  first_stop lines taken now before after Memory kept = (0, keeps_nothing taken now kept)
+  first_stop lines taken now before after Write went =
+      let first = first_text p in
       let rest = texts_from p 1 (reports_from p (empty_tables p.catalog) (ticks_of (lines_from p.catalog 1 lines))) in (
         went.0,
         (
@@ -180,29 +203,38 @@ module _ (p : Meant) where
         ),
       )
 
-  -- block 0 stopped
-  pub first_stop : (lines : List (List ℕ)) (seen : List (List Row)) (taken now : Option (List ℕ)) (before after : ℕ) (stop : Stop)
-      → seen ≡ shown p (empty_tables p.catalog) → Stopped taken now before after (change_text p.catalog [] seen 0) stop
-      → StoppedWithin p taken now before after (reports p lines) stop
-  first_stop lines seen taken now before after stop is stopped =
-      first_text_stop lines taken now before after stop (subst (λ rows. Stopped taken now before after (change_text p.catalog [] rows 0) stop) is stopped)
-
   -- the last ticks are told
-  pub going_told : (all : List Report) (taken now next : Option (List ℕ)) (before after : ℕ) (run : Run) (left : List Report)
-      → Going p all taken now before after run left → Appends now next (texts_from p run.tick left) → Appends taken next (texts_from p 0 all)
-  going_told all taken now next before after run left g told =
+  pub going_told : (all : List Report) (taken now next : Option (List ℕ)) (before after : ℕ) (lists : Tables) (run : Run) (left : List Report)
+      → Going p all taken now before after lists run left → Appends now next (texts_from p run.tick left) → Appends taken next (texts_from p 0 all)
+  going_told all taken now next before after lists run left g told =
       subst (λ t. Appends taken next (texts_from p 0 t)) (sym g.parts) (told_more g.done left run.tick taken now next g.tick g.told told)
 
-  pub going_refused : (all : List Report) (taken now : Option (List ℕ)) (before after : ℕ) (run : Run) (left : List Report) (refused : Bool)
-      → Going p all taken now before after run left → refused ≡ (run.refused || list_any (λ r. is_refusal r.1) left)
-      → refused ≡ list_any (λ r. is_refusal r.1) all
-  going_refused all taken now before after run left refused g e =
+  pub going_refused : (all : List Report) (taken now : Option (List ℕ)) (before after : ℕ) (lists : Tables) (run : Run) (left : List Report) (any : Bool)
+      → Going p all taken now before after lists run left → any ≡ (run.refused || list_any (λ r. is_refusal r.1) left)
+      → any ≡ list_any (λ r. is_refusal r.1) all
+  going_refused all taken now before after lists run left any g e =
       e ∙ ap (λ b. b || list_any (λ r. is_refusal r.1) left) g.refused ∙ sym (list_any-append (λ r. is_refusal r.1) g.done left)
       ∙ ap (list_any (λ r. is_refusal r.1)) (sym g.parts)
 
+  -- an unfinished tick leaves the tables
+  unfinished_keeps : (lists : Tables) (b : Bool) → tables_now lists (cond b [] ((shown p lists, refused Unfinished) ∷ [])) ≡ lists
+  unfinished_keeps lists true = refl
+  unfinished_keeps lists false = refl
+
+  -- the engine that is left
+  pub going_left : (all : List Report) (taken now : Option (List ℕ)) (before after : ℕ) (lists : Tables) (run : Run) (count : ℕ) (played : Played)
+      → Going p all taken now before after lists run (still p lists run.lines.items []) → IsAt p lists run → run.engine.shards ≡ count → IsEnded p lists run played
+      → IsLeft p all count played.engine
+  going_left all taken now before after lists run count played g stands shards ended =
+      let last = still p lists run.lines.items [] in
+      let same : lists ≡ tables_now (empty_tables p.catalog) all =
+      sym (unfinished_keeps lists (list_all is_blank run.lines.items)) ∙ sym (ap (tables_now lists) (still_end p lists run.lines.items))
+      ∙ ap (λ t. tables_now t last) g.tables ∙ sym (tables_now-append (empty_tables p.catalog) g.done last) ∙ ap (tables_now (empty_tables p.catalog)) (sym g.parts) in
+      record { over = subst (λ e. IsOver p (tables_now (empty_tables p.catalog) all) e) (sym ended.engine) (subst (λ t. IsOver p t run.engine) same stands.over); shards = ap (λ e. e.shards) ended.engine ∙ shards }
+
   -- a line brings one tick at most
-  pub length-brought : (run : Run) (line : Line) → length (brought p run line) ≤ 1
-  length-brought run line = few (is_commit line) where
-    few : (b : Bool) → length {A = Report} (cond b ((shown p run.tables.items, played p run) ∷ []) []) ≤ 1
+  pub length-brought : (lists : Tables) (waiting : List Line) (line : Line) → length (brought p lists waiting line) ≤ 1
+  length-brought lists waiting line = few (is_commit line) where
+    few : (b : Bool) → length {A = Report} (cond b ((shown p lists, outcome p lists waiting) ∷ []) []) ≤ 1
     few true = omega arith
     few false = omega arith

@@ -1,5 +1,5 @@
 -- The judgement of a program, from its tokens up to its input.
-use Rattle.std.proofs.Common.{◌≡◌, ◌↔◌, ℕ, List, Bool, true, false, refl, sym, ap, ◌∙◌, subst, ◌<◌, ◌≤◌, length}
+use Rattle.std.proofs.Common.{◌≡◌, ◌↔◌, ℕ, List, Bool, true, false, refl, sym, ap, ◌∙◌, subst, ◌<◌, ◌≤◌, ◌*◌, ◌^◌, length, arith}
 use Rattle.std.specs.Prelude.{IsTrue}
 use Rattle.std.specs.Str.{IsUtf8}
 use Rattle.sq_token.specs.declared.token.Token.{Token}
@@ -14,20 +14,24 @@ use Rattle.sq_top.specs.declared.judge.JudgeStop.{JudgeStop}
 use Rattle.sq_top.specs.declared.judge.JudgeStop.TheVariants.{Fault, Memory}
 use Rattle.sq_ast.specs.declared.statement.Statement.{Statement}
 use Rattle.sq_ast.specs.Spelling.{Spells}
-use Rattle.sq_top.specs.declared.program_fault.ProgramFault.TheVariants.{TextTooLong}
+use Rattle.sq_ast.specs.Sources.{program_sources}
+use Rattle.sq_print.specs.declared.program_fault.ProgramFault.TheVariants.{TextTooLong}
 use Rattle.std.specs.Prelude.{Some, None}
-use Rattle.std.proofs.Common.{Vec, Global}
 use Rattle.sq_check.specs.declared.program.CheckFault.{CheckFault}
 use Rattle.sq_check.specs.declared.program.CheckFault.TheVariants as checking
 use Rattle.sq_typed.specs.Faults.{refused}
 use Rattle.sq_typed.specs.declared.check_kind.CheckKind.{CheckKind}
-use Rattle.sq_typed.specs.Views.{shown}
-use Rattle.sq_typed.specs.Fit.{TablesAreOfKinds}
-use Rattle.sq_typed.specs.From.{Row}
 use Rattle.sq_typed.specs.Programs.{Typed}
-use Rattle.sq_typed.specs.Tables.{Tables}
+use Rattle.sq_typed.specs.Checked.{IsChecked}
+use Rattle.sq_typed.specs.Sources.{sources_in}
 use Rattle.sq_typed.specs.Views.{Meant}
-use Rattle.sq_top.proofs.TableLemmas.{kinds_empty}
+use Rattle.sq_circuit.specs.Circuits.{verdict}
+use Rattle.sq_circuit.specs.declared.circuit.Part.{Part}
+use Rattle.sq_engine.specs.Engines.{State, begun, no_tables, views_over}
+use Rattle.sq_plan.specs.Program.{IsPlanOf}
+use Rattle.sq_bridge.proofs.SmallPrograms.{checked_relations_few}
+use Rattle.sq_top.specs.Over.{IsOver}
+use Rattle.sq_top.proofs.OverLemmas.{empty_same, over_begun}
 use Rattle.sq_top.specs.Judgements.{IsJudged, RangeStop, Starts}
 use Rattle.sq_top.specs.Relations.{empty_tables}
 use Rattle.sq_top.specs.declared.judge.Judged.{Judged}
@@ -100,10 +104,27 @@ pub range_stops : (statements : List Statement) (p : Meant) (stop : JudgeStop) �
 range_stops statements p (Fault fault) none typed w = subst (StatementsFault statements) (sym w.2) (StatementsFault.range p none typed w.1)
 range_stops statements p Memory none typed w = tt
 
-pub starts : (p : Meant) (tables shown_now : Vec (List Row) Global) (seen : Tables) → seen ≡ tables.items → tables.items ≡ empty_tables p.catalog
-    → shown_now.items ≡ shown p seen → Starts (record { program = p; tables = tables; shown = shown_now })
-starts p tables shown_now seen same empty is = record {
-  tables = empty;
-  kinds = subst (λ ts. TablesAreOfKinds ts p.catalog) (sym empty) (kinds_empty p.catalog);
-  shown = is ∙ ap (shown p) same;
+-- an engine that has started over the circuit of a program stands for its empty tables
+pub starts : (j : Judged) (e : State) → IsPlanOf j.program e.circuit → j.engine ≡ begun e → j.changes.views.items ≡ views_over e.circuit (no_tables e.circuit)
+    → Starts e.shards j
+starts j e plan is told = record {
+  over = subst (IsOver j.program (empty_tables j.program.catalog)) (sym is) (over_begun j.program e plan);
+  shards = ap (λ x. x.shards) is;
+  changes = told ∙ ap (λ (x : State). views_over x.circuit (no_tables x.circuit)) (sym is);
 }
+
+-- the program is in range over empty tables if its circuit is
+pub in_range : (p : Meant) (c : List Part) → IsPlanOf p c → verdict c (no_tables c) ≡ None → empty_verdict p ≡ None
+in_range p c plan none = sym (empty_same p c plan) ∙ none
+
+pub out_of_range : (p : Meant) (c : List Part) (view : ℕ) → IsPlanOf p c → verdict c (no_tables c) ≡ Some view → empty_verdict p ≡ Some view
+out_of_range p c view plan found = sym (empty_same p c plan) ∙ found
+
+-- at most so many sources make few nodes
+pub few_nodes : (p : Meant) (c : List Part) → IsChecked p → IsPlanOf p c → sources_in p ≤ 2 ^ 20 → length c < 2 ^ 26
+few_nodes p c checked plan few = omega (arith, plan.few, checked_relations_few p checked, few)
+
+-- a text that is not too long has few sources
+pub few_sources : (tokens : List Token) (statements items : List Statement) → length tokens ≤ longest_text → statements ≡ items
+    → 2 * program_sources items ≤ length tokens → program_sources statements ≤ 2 ^ 20
+few_sources tokens statements items short same half = let is = ap program_sources same in omega (arith, is, half, short)

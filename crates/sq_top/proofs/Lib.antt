@@ -1,6 +1,5 @@
 mod Places
 mod LineLemmas
-mod RowLemmas
 mod Reports
 mod Going
 mod Reading
@@ -11,5 +10,7 @@ mod TableLemmas
 mod RelationLemmas
 mod ProgramLemmas
 mod UpdateLemmas
-mod CommaLemmas
 mod PrefixLemmas
+mod OverLemmas
+mod TickLemmas
+mod Playing

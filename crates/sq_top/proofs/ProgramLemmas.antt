@@ -15,8 +15,8 @@ use Rattle.sq_typed.specs.declared.check_kind.CheckKind.{CheckKind}
 use Rattle.sq_top.specs.Lines.{lines_of, text_before_end}
 use Rattle.sq_top.specs.Programs.{longest_text, empty_verdict, IsText, IsProgram, StatementsFault, TokensFault, TextFault, HasFault, check, range, too_deep, not_grammar, in_statements, not_utf8, lex, in_tokens, text_too_long, no_end_too_long, no_end, in_text}
 use Rattle.sq_top.specs.Relations.{view_name}
-use Rattle.sq_top.specs.declared.program_fault.ProgramFault.{ProgramFault}
-use Rattle.sq_top.specs.declared.program_fault.ProgramFault.TheVariants as faults
+use Rattle.sq_print.specs.declared.program_fault.ProgramFault.{ProgramFault}
+use Rattle.sq_print.specs.declared.program_fault.ProgramFault.TheVariants as faults
 
 -- ---- one program
 

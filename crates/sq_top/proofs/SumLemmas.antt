@@ -11,7 +11,7 @@ use Rattle.sq_typed.specs.Laws.{rows_in}
 use Rattle.sq_typed.specs.Tables.{Tables}
 use Rattle.sq_typed.specs.Views.{Meant}
 use Rattle.sq_value.specs.Count.{count}
-use Rattle.sq_top.specs.declared.refusal.Refusal.TheVariants.{Unfinished}
+use Rattle.sq_print.specs.declared.refusal.Refusal.TheVariants.{Unfinished}
 use Rattle.sq_top.proofs.ChangeLemmas.{told_rise}
 use Rattle.sq_top.specs.Output.{reports}
 use Rattle.sq_top.specs.Relations.{empty_tables}

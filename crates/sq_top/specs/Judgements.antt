@@ -1,20 +1,25 @@
 -- What the judgement of a program hands on.
-use Rattle.std.specs.Prelude.{◌≡◌, ℕ, Some, None, ⊤}
-use Rattle.sq_typed.specs.Views.{shown}
-use Rattle.sq_typed.specs.Fit.{TablesAreOfKinds}
-use Rattle.sq_typed.specs.Views.{Meant}
+use Rattle.std.specs.Prelude.{◌≡◌, ℕ, List, [], Some, None, ⊤}
+use Rattle.sq_engine.specs.Engines.{no_tables, views_over}
+use Rattle.sq_typed.specs.Views.{Meant, shown}
+use Rattle.sq_top.specs.Over.{IsOver}
 use Rattle.sq_top.specs.Programs.{empty_verdict}
 use Rattle.sq_top.specs.Relations.{empty_tables, view_name}
+use Rattle.sq_top.specs.Texts.{change_text}
 use Rattle.sq_top.specs.declared.judge.JudgeStop.{JudgeStop}
 use Rattle.sq_top.specs.declared.judge.JudgeStop.TheVariants.{Fault, Memory}
 use Rattle.sq_top.specs.declared.judge.Judged.{Judged}
-use Rattle.sq_top.specs.declared.program_fault.ProgramFault.TheVariants as faults
+use Rattle.sq_print.specs.declared.program_fault.ProgramFault.TheVariants as faults
 
--- the tables are empty, and the views are listed over them
-pub record Starts (j : Judged) : Type 0 where
-  pub tables : j.tables.items ≡ empty_tables j.program.catalog
-  pub kinds : TablesAreOfKinds j.tables.items j.program.catalog
-  pub shown : j.shown.items ≡ shown j.program j.tables.items
+-- the engine stands for empty tables and has so many shards, and the changes are what its views have over them
+pub record Starts (count : ℕ) (j : Judged) : Type 0 where
+  pub over : IsOver j.program (empty_tables j.program.catalog) j.engine
+  pub shards : j.engine.shards ≡ count
+  pub changes : j.changes.views.items ≡ views_over j.engine.circuit (no_tables j.engine.circuit)
+
+-- block 0
+abbrev pub first_text : Meant → List ℕ
+first_text p = change_text p.catalog [] (shown p (empty_tables p.catalog)) 0
 
 -- this program is accepted
 pub record IsJudged (p : Meant) (j : Judged) : Type 0 where

@@ -2,14 +2,12 @@ pub mod Lines
 pub mod Relations
 pub mod Fits
 pub mod Ticks
-pub mod Outcomes
-pub mod Commas
 pub mod Texts
 pub mod Output
 pub mod Updates
 pub mod Programs
 pub mod Judgements
-pub mod FaultTexts
+pub mod Over
 pub mod Runs
 pub mod Prefixes
 pub mod Statuses

@@ -19,8 +19,8 @@ use Rattle.sq_typed.specs.Programs.{Typed}
 use Rattle.sq_typed.specs.Views.{Meant, verdict}
 use Rattle.sq_top.specs.declared.judge.JudgeStop.{JudgeStop}
 use Rattle.sq_top.specs.declared.judge.JudgeStop.TheVariants.{Fault, Memory}
-use Rattle.sq_top.specs.declared.program_fault.ProgramFault.{ProgramFault}
-use Rattle.sq_top.specs.declared.program_fault.ProgramFault.TheVariants as faults
+use Rattle.sq_print.specs.declared.program_fault.ProgramFault.{ProgramFault}
+use Rattle.sq_print.specs.declared.program_fault.ProgramFault.TheVariants as faults
 use Rattle.sq_top.specs.Lines.{lines_of, has_end_line, text_before_end}
 use Rattle.sq_top.specs.Relations.{empty_tables, view_name}
 

@@ -1,16 +1,18 @@
 -- What each status of a run says of the objects that it was handed.
-use Rattle.std.specs.Prelude.{◌≡◌, ◌≢◌, ◌⊎◌, ℕ, ◌+◌, ◌<◌, ◌≤◌, List, [], length, take, true, false, Option, IfSome, ⊤, codes}
+use Rattle.std.specs.Prelude.{◌≡◌, ◌≢◌, ◌⊎◌, ℕ, ◌+◌, ◌<◌, ◌≤◌, List, [], length, take, true, false, Option, Some, None, IfSome, ⊤, codes, if◌then◌else◌}
 use Rattle.std.specs.Io.KnownBytes.{Appends, Consumes, Keeps, IsAtEnd}
 use Rattle.sq_base.specs.Causes.{Rose}
 use Rattle.sq_top.specs.Lines.{lines_of, lines_after_end}
 use Rattle.sq_top.specs.Output.{has_refusal, output, reports, texts_from}
+use Rattle.sq_engine.specs.Engines.{State}
 use Rattle.sq_typed.specs.Views.{Meant}
 use Rattle.sq_top.specs.Programs.{HasFault, IsProgram}
-use Rattle.sq_top.specs.FaultTexts.{fault_text}
+use Rattle.sq_print.specs.FaultTexts.{told_fault}
 use Rattle.sq_top.specs.Prefixes.{TakesPrefix}
-use Rattle.sq_top.specs.declared.program_fault.ProgramFault.{ProgramFault}
+use Rattle.sq_top.specs.Runs.{IsLeft}
+use Rattle.sq_print.specs.declared.program_fault.ProgramFault.{ProgramFault}
 use Rattle.sq_top.specs.declared.session.Ending.{Ending}
-use Rattle.sq_top.specs.declared.session.Ending.TheVariants.{Ends, Refused}
+use Rattle.sq_top.specs.declared.session.Ending.TheVariants.{Ends, Finished, Refused}
 use Rattle.sq_top.specs.declared.statuses.Status.{Status}
 use Rattle.sq_top.specs.declared.statuses.Status.TheVariants.{Done, Usage, DoneWithRefusals, BadProgram, ReadFault, WriteFault, NoMemory, TooLong}
 
@@ -107,12 +109,12 @@ status_line TooLong = codes "{\"status\":\"input too long\"}\n"
 
 -- What the sink for errors took: the line of the program's first fault, or the line of the status.
 abbrev pub Tells : Option (List ℕ) → Option (List ℕ) → Option (List ℕ) → Status → Type 0
-Tells left taken now BadProgram = (fault : ProgramFault) × IfSome left (λ input. HasFault input fault) × Appends taken now (fault_text fault)
+Tells left taken now BadProgram = (fault : ProgramFault) × IfSome left (λ input. HasFault input fault) × Appends taken now (told_fault fault)
 Tells left taken now status = Appends taken now (status_line status)
 
 -- What the sink for errors took, also if it failed: a prefix of that line.
 abbrev pub TellsPrefix : Option (List ℕ) → Option (List ℕ) → Option (List ℕ) → Status → Type 0
-TellsPrefix left taken now BadProgram = (fault : ProgramFault) × IfSome left (λ input. HasFault input fault) × TakesPrefix taken now (fault_text fault)
+TellsPrefix left taken now BadProgram = (fault : ProgramFault) × IfSome left (λ input. HasFault input fault) × TakesPrefix taken now (told_fault fault)
 TellsPrefix left taken now status = TakesPrefix taken now (status_line status)
 
 -- the bytes that a source or a sink tells, and how often it has failed
@@ -136,22 +138,43 @@ pub record Told (left : Option (List ℕ)) (err err_now : Seen) (status : Status
   pub line : (Rose err.faults err_now.faults → ⊥) → Tells left err.bytes err_now.bytes status
   pub prefix : TellsPrefix left err.bytes err_now.bytes status
 
+-- the engine of a run of this input: it stands for the input's program, and its tables are those after the accepted ticks
+pub record IsEngineOf (workers : ℕ) (input : List ℕ) (engine : State) : Type 0 where
+  pub program : Meant
+  pub of_input : IsProgram input program
+  pub left : IsLeft program (reports program (lines_after_end (lines_of input))) workers engine
+
+-- A run that is finished hands back its engine, for so many workers, and no other run hands back one.
+abbrev pub HandsBack : ℕ → Option (List ℕ) → Status → Option State → Type 0
+HandsBack workers left status None = IsFinished status → ⊥
+HandsBack workers left status (Some engine) = IsFinished status × IfSome left (λ input. IsEngineOf workers input engine)
+
 -- the line that tells of an ending
 abbrev pub ending_line : Ending → List ℕ
+ending_line (Finished played) = []
 ending_line (Ends status) = status_line status
 ending_line (Refused line) = line.items
 
 -- the status of an ending
 abbrev pub status_of : Ending → Status
+status_of (Finished played) = if played.refused then DoneWithRefusals else Done
 status_of (Ends status) = status
 status_of (Refused line) = BadProgram
 
+-- the engine of an ending that has one
+abbrev pub engine_of : Ending → Option State
+engine_of (Finished played) = Some played.engine
+engine_of (Ends status) = None
+engine_of (Refused line) = None
+
 -- the line of a refusal is that of the program's first fault
 abbrev pub Names : Option (List ℕ) → Ending → Type 0
+Names left (Finished played) = ⊤
 Names left (Ends status) = status ≢ BadProgram
-Names left (Refused line) = (fault : ProgramFault) × IfSome left (λ input. HasFault input fault) × (line.items ≡ fault_text fault)
+Names left (Refused line) = (fault : ProgramFault) × IfSome left (λ input. HasFault input fault) × (line.items ≡ told_fault fault)
 
 -- the ending of a program with this fault, unless memory ran out
 abbrev pub Refuses : ProgramFault → Ending → Type 0
+Refuses fault (Finished played) = ⊥
 Refuses fault (Ends status) = status ≡ NoMemory
-Refuses fault (Refused line) = line.items ≡ fault_text fault
+Refuses fault (Refused line) = line.items ≡ told_fault fault

@@ -10,8 +10,8 @@ use Rattle.sq_typed.specs.From.{Row}
 use Rattle.sq_typed.specs.Tables.{Tables, at_table, changed_rows}
 use Rattle.sq_typed.specs.Views.{Meant, verdict}
 use Rattle.sq_top.specs.Relations.{view_name}
-use Rattle.sq_top.specs.declared.refusal.Refusal.{Refusal}
-use Rattle.sq_top.specs.declared.refusal.Refusal.TheVariants.{Malformed, Absent, Range, Unfinished}
+use Rattle.sq_print.specs.declared.refusal.Refusal.{Refusal}
+use Rattle.sq_print.specs.declared.refusal.Refusal.TheVariants.{Malformed, Absent, Range, Unfinished}
 
 -- what became of a tick: the tables after it, or why it is refused
 pub data Outcome : Type 0 where

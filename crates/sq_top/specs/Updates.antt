@@ -9,7 +9,7 @@ use Rattle.sq_typed.specs.Tables.{Tables}
 use Rattle.sq_typed.specs.Views.{Meant, verdict}
 use Rattle.sq_typed.specs.declared.update.Update.{Update}
 use Rattle.sq_top.specs.Ticks.{Outcome, refused, ended}
-use Rattle.sq_top.specs.declared.refusal.Refusal.TheVariants.{Absent}
+use Rattle.sq_print.specs.declared.refusal.Refusal.TheVariants.{Absent}
 
 abbrev pub update_of : Line → Option Update
 update_of (line.Update u) = Some u

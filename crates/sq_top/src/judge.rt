@@ -1,37 +1,42 @@
 //! The judgement of the program of an input.
 ghost use Rattle.std.specs.Str.{IsUtf8};
 ghost use Rattle.std.specs.List.{AllByRecursion};
-ghost use Rattle.std.specs.Prelude.{◌≡◌, ◌↔◌, IsTrue, ◌<◌, ◌≤◌, ◌-◌, ℕ, List, length, false, IfOk, IfErr};
+ghost use Rattle.std.specs.Prelude.{◌≡◌, ◌↔◌, IsTrue, ◌<◌, ◌≤◌, ◌-◌, ◌^◌, ℕ, List, length, false, IfOk, IfErr};
 ghost use Rattle.sq_token.specs.declared.token.Token.{Token as Lexeme};
 ghost use Rattle.sq_token.specs.Reading.{Tokens};
 ghost use Rattle.sq_ast.specs.Spelling.{Spells};
 ghost use Rattle.sq_typed.specs.Checked.{Spelling};
 ghost use Rattle.sq_top.specs.Lines.{lines_of, has_end_line, lines_after_end};
 ghost use Rattle.sq_top.specs.Programs.{HasFault, longest_text, IsProgram, IsText, TextStops, Stops, StatementsStop, TokensStop};
+ghost use Rattle.sq_ast.specs.Sources.{program_sources};
+ghost use Rattle.sq_plan.specs.Program.{IsPlanOf};
+ghost use Rattle.sq_typed.specs.Sources.{sources_in};
+ghost use Rattle.sq_engine.specs.Engines.{fresh};
 ghost use Rattle.sq_top.specs.Judgements.{IsJudged, Starts, RangeStop};
 
 use crate::lines::split_program;
-use crate::program_fault::ProgramFault;
-use crate::relations::{empty_tables, view_name};
+use crate::relations::view_name;
 use sq_ast::Statement;
 use sq_check::{CheckFault, check};
-use sq_lists::{ViewsFault, list_views};
+use sq_circuit::Changes;
+use sq_engine::{Engine, TickRefusal};
 use sq_parse::{ParseFault, statements};
+use sq_plan::plan;
+use sq_print::ProgramFault;
 use sq_token::{LexFault, Token, tokens};
 use sq_typed::Program;
-use sq_value::{NoMemory, Row};
-use sqlite_items::Items;
+use sq_value::NoMemory;
 use std::alloc::Global;
 
 /// The most bytes that a program text may have.
 const LONGEST_TEXT: usize = 1_048_576;
 
-/// A program that is accepted, with its tables, which are empty, and the rows of its views over them.
+/// A program that is accepted, with the engine of its circuit over empty tables, and what its views have over them.
 #[derive(Drop)]
 pub struct Judged {
     pub program: Program,
-    pub tables: Vec<Items<Row>>,
-    pub shown: Vec<Items<Row>>,
+    pub engine: Engine,
+    pub changes: Changes,
 }
 
 /// Why no program was accepted.
@@ -92,10 +97,11 @@ impl From<CheckFault> for JudgeStop {
     }
 }
 
-/// The program of an input and its change lines, or the first fault of its program.
-pub fn judge(alloc: Global, input: &[u8]) -> Result<(Judged, &[u8]), JudgeStop>
+/// The program of an input and its change lines, or the first fault of its program. The engine is for so many workers.
+pub fn judge(alloc: Global, input: &[u8], workers: u32) -> Result<(Judged, &[u8]), JudgeStop>
+    requires workers { (1 ≤ workers) × (workers ≤ 64) }
     ensures accepted { IfOk result (λ r. IsProgram input.now r.0.program) }
-    ensures starts { IfOk result (λ r. Starts r.0) }
+    ensures starts { IfOk result (λ r. Starts workers r.0) }
     ensures lines { IfOk result (λ r. (lines_of r.1.now ≡ lines_after_end (lines_of input.now))
         × (length r.1.now ≤ length input.now)) }
     ensures refused { IfErr result (Stops input.now) }
@@ -106,7 +112,7 @@ pub fn judge(alloc: Global, input: &[u8]) -> Result<(Judged, &[u8]), JudgeStop>
     if text.len() > LONGEST_TEXT {
         return Err(JudgeStop::Fault(ProgramFault::TextTooLong));
     }
-    let judged = judge_text(alloc, text)?;
+    let judged = judge_text(alloc, text, workers)?;
     Ok((judged, lines))
 }
 
@@ -123,61 +129,84 @@ fn without_end(input: &[u8]) -> ProgramFault
 }
 
 // The program of a text, so of each input with this text, or the text's first fault.
-fn judge_text(alloc: Global, text: &[u8]) -> Result<Judged, JudgeStop>
-    requires { length text.now ≤ longest_text }
+fn judge_text(alloc: Global, text: &[u8], workers: u32) -> Result<Judged, JudgeStop>
+    requires workers { (1 ≤ workers) × (workers ≤ 64) }
+    requires short { length text.now ≤ longest_text }
     ensures accepted { IfOk result (λ j. (input : List ℕ) → IsText input text.now → IsProgram input j.program) }
-    ensures starts { IfOk result Starts }
+    ensures starts { IfOk result (Starts workers) }
     ensures refused { IfErr result (TextStops text.now) }
 {
     if !is_utf8(text) {
         return Err(JudgeStop::Fault(ProgramFault::NotUtf8));
     }
     let tokens = tokens(alloc, text)?;
-    judge_tokens(alloc, &tokens)
+    judge_tokens(alloc, &tokens, workers)
 }
 
 // The same for the tokens of a text in UTF-8.
-fn judge_tokens(alloc: Global, tokens: &[Token]) -> Result<Judged, JudgeStop>
-    requires { length tokens.now ≤ longest_text }
+fn judge_tokens(alloc: Global, tokens: &[Token], workers: u32) -> Result<Judged, JudgeStop>
+    requires workers { (1 ≤ workers) × (workers ≤ 64) }
+    requires short { length tokens.now ≤ longest_text }
     ensures accepted { IfOk result (λ j. (input text : List ℕ) → IsText input text → IsUtf8 text → Tokens text tokens.now
         → IsProgram input j.program) }
-    ensures starts { IfOk result Starts }
+    ensures starts { IfOk result (Starts workers) }
     ensures refused { IfErr result (TokensStop tokens.now) }
 {
     let statements = statements(alloc, tokens)?;
-    judge_statements(alloc, &statements)
+    judge_statements(alloc, &statements, workers)
 }
 
 // The same for statements, each of which is spelled by some tokens.
-fn judge_statements(alloc: Global, statements: &[Statement]) -> Result<Judged, JudgeStop>
-    requires { AllByRecursion Spelling statements.now }
+fn judge_statements(
+    alloc: Global,
+    statements: &[Statement],
+    workers: u32,
+) -> Result<Judged, JudgeStop>
+    requires workers { (1 ≤ workers) × (workers ≤ 64) }
+    requires few { program_sources statements.now ≤ 2 ^ 20 }
+    requires spelled { AllByRecursion Spelling statements.now }
     ensures accepted { IfOk result (λ j. (input text : List ℕ) (tokens : List Lexeme) → IsText input text → IsUtf8 text
         → Tokens text tokens → Spells tokens statements.now → IsProgram input j.program) }
-    ensures starts { IfOk result Starts }
+    ensures starts { IfOk result (Starts workers) }
     ensures refused { IfErr result (StatementsStop statements.now) }
 {
     let program = check(alloc, statements)?;
-    judge_program(alloc, program)
+    judge_program(alloc, program, workers)
 }
 
-// A program with its views over empty tables, or the first view that is out of range over them.
-fn judge_program(alloc: Global, program: Program) -> Result<Judged, JudgeStop>
+// A program with its engine over empty tables, or the first view that is out of range over them.
+fn judge_program(alloc: Global, program: Program, workers: u32) -> Result<Judged, JudgeStop>
+    requires workers { (1 ≤ workers) × (workers ≤ 64) }
+    requires few { sources_in program ≤ 2 ^ 20 }
     ensures accepted { IfOk result (λ j. IsJudged program j) }
-    ensures starts { IfOk result Starts }
+    ensures starts { IfOk result (Starts workers) }
     ensures refused { IfErr result (RangeStop program) }
 {
-    let tables = empty_tables(alloc, program.catalog())?;
-    match list_views(alloc, &program, &tables) {
-        Ok(shown) => Ok(Judged {
+    let circuit = plan(alloc, &program)?;
+    let engine = Engine::new(alloc, circuit, workers)?;
+    start(alloc, program, engine)
+}
+
+// The same of an engine over the circuit of the program, which is to start.
+fn start(alloc: Global, program: Program, engine: Engine) -> Result<Judged, JudgeStop>
+    requires plan { IsPlanOf program engine.circuit }
+    requires begins { engine ≡ fresh engine.circuit engine.shards }
+    ensures accepted { IfOk result (λ j. IsJudged program j) }
+    ensures starts { IfOk result (Starts engine.shards) }
+    ensures refused { IfErr result (RangeStop program) }
+{
+    let mut engine = engine;
+    match engine.start(alloc) {
+        Ok(changes) => Ok(Judged {
             program,
-            tables,
-            shown,
+            engine,
+            changes,
         }),
-        Err(ViewsFault::Range { view }) => {
+        Err(TickRefusal::Range { view }) => {
             let view = view_name(alloc, program.catalog(), view)?;
             Err(JudgeStop::Fault(ProgramFault::Range { view }))
         }
-        Err(ViewsFault::Memory) => Err(JudgeStop::Memory),
+        Err(TickRefusal::Memory) => Err(JudgeStop::Memory),
     }
 }
 

@@ -10,10 +10,11 @@ ghost use Rattle.sq_top.specs.Programs.{IsProgram, HasFault};
 ghost use Rattle.sq_catalog.specs.Sorts.{is_printed, views_of};
 ghost use Rattle.sq_catalog.specs.declared.relation.Relation.{Relation};
 ghost use Rattle.sq_top.specs.Sums.{first_reports, printed_sum, times_held};
-ghost use Rattle.sq_top.specs.Texts.{accepted_text, changes, rise_text, tick_text, view_text, views_text};
+ghost use Rattle.sq_print.specs.Texts.{accepted_text, rise_text};
+ghost use Rattle.sq_top.specs.Texts.{changes, tick_text, view_text, views_text};
 ghost use Rattle.sq_top.specs.Ticks.{accepted, outcome};
 ghost use Rattle.sq_top.specs.Updates.{updates_of, has_bad, outcome_after};
-ghost use Rattle.sq_top.specs.declared.program_fault.ProgramFault.{ProgramFault as Fault};
+ghost use Rattle.sq_print.specs.declared.program_fault.ProgramFault.{ProgramFault as Fault};
 ghost use Rattle.sq_typed.specs.Tables.{Tables, after};
 
 /// After block 0 and any number of ticks, the numbers told so far for a row of a view, deletes with a minus, add up to how often

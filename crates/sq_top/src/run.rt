@@ -1,25 +1,21 @@
 //! The ticks of an input, one after the other.
-ghost use Rattle.std.specs.Prelude.{◌≡◌, ◌+◌, ◌≤◌, ◌<◌, ◌^◌, ◌++◌, ◌∷◌, ◌||◌, [], List, length, IfOk, IfErr, OnOk, true};
-ghost use Rattle.std.specs.List.{list_any, list_all};
+ghost use Rattle.std.specs.Prelude.{◌≡◌, ◌≤◌, ◌<◌, ◌^◌, IfOk, IfErr, OnOk};
+ghost use Rattle.std.specs.List.{list_all};
 ghost use Rattle.std.specs.Io.KnownBytes.{Appends};
 ghost use Rattle.sq_lines.specs.Lines.{is_blank};
+ghost use Rattle.sq_typed.specs.Tables.{Tables};
 ghost use Rattle.sq_top.specs.Fits.{Fits};
-ghost use Rattle.sq_typed.specs.Views.{shown};
-ghost use Rattle.sq_typed.specs.Views.{Meant};
-ghost use Rattle.sq_top.specs.Ticks.{tables_after, is_refusal};
-ghost use Rattle.sq_top.specs.Outcomes.{outcome_of, Shows};
-ghost use Rattle.sq_top.specs.Texts.{change_text, tick_text as tick_text_lem};
-ghost use Rattle.sq_top.specs.Output.{texts_from};
-ghost use Rattle.sq_top.specs.Judgements.{Starts};
+ghost use Rattle.sq_top.specs.Judgements.{Starts, first_text};
 
-use crate::print::{block_text, refusal_text, tick_text};
-use crate::refusal::Refusal;
-use crate::tick::{Outcome, play_tick};
+use crate::play::Played;
+use crate::tick::play_tick;
 use sq_base::{Failed, Sink, put_all};
+use sq_circuit::Changes;
+use sq_engine::Engine;
 use sq_lines::Line;
+use sq_print::{Refusal, block_text, refusal_text};
 use sq_typed::Program;
-use sq_value::{NoMemory, Row};
-use sqlite_items::Items;
+use sq_value::NoMemory;
 use std::alloc::{AllocFailed, Global};
 
 /// Why a run of ticks stopped before its end.
@@ -62,12 +58,12 @@ impl From<Failed> for Stop {
 /// Where a run of ticks stands.
 #[derive(Drop)]
 pub struct Run {
-    /// The rows of the tables after the last accepted tick.
-    pub tables: Vec<Items<Row>>,
-    /// The rows of the views over them.
-    pub shown: Vec<Items<Row>>,
+    /// The circuit of the views, and the tables after the last accepted tick.
+    pub engine: Engine,
     /// The lines since the last commit line.
     pub lines: Vec<Line>,
+    /// How many lines were read.
+    pub read: u64,
     /// The number of the next tick.
     pub tick: u64,
     /// Whether a tick was refused.
@@ -75,31 +71,28 @@ pub struct Run {
 }
 
 impl Run {
-    ghost use Rattle.sq_lines.specs.declared.line.Line.{Line as Said};
-    ghost use Rattle.sq_top.specs.Runs.{still, brought, played, Stands, IsStart, IsClosed, Stopped};
+    ghost use Rattle.sq_top.specs.Runs.{last_text, line_text, waiting_text, Goes, IsAt, IsClosed, IsEnded, IsStart, Stopped};
 
     /// The run over empty tables, before the first line, once block 0 is printed.
     pub fn start<K: Sink>(
         alloc: Global,
         program: &Program,
-        tables: Vec<Items<Row>>,
-        shown: Vec<Items<Row>>,
+        engine: Engine,
+        changes: Changes,
         out: &mut K,
     ) -> Result<Run, Stop>
-        requires { Starts (record { program = program.now; tables = tables; shown = shown }) }
-        ensures start { IfOk result (IsStart program.now) }
-        ensures stands { IfOk result (Stands program.now) }
-        ensures told { OnOk result (Appends (K.taken out.old) (K.taken out.new) (change_text program.now.catalog [] shown.items 0)) }
-        ensures stopped { IfErr result (Stopped (K.taken out.old) (K.taken out.new) (K.faults out.old) (K.faults out.new)
-            (change_text program.now.catalog [] shown.items 0)) }
+        requires { Starts engine.shards (record { program = program.now; engine = engine; changes = changes }) }
+        ensures start { IfOk result (IsStart program.now engine) }
+        ensures told { OnOk result (Appends (K.taken out.old) (K.taken out.new) (first_text program.now)) }
+        ensures stopped { IfErr result (Stopped (K.taken out.old) (K.taken out.new) (K.faults out.old) (K.faults out.new) (first_text program.now)) }
         ensures later { K.faults out.old ≤ K.faults out.new }
     {
-        let text = block_text(alloc, program.catalog(), 0, &[], &shown)?;
+        let text = block_text(alloc, program.catalog(), 0, &changes)?;
         put_all(out, &text)?;
         Ok(Run {
-            tables,
-            shown,
+            engine,
             lines: Vec::new(alloc),
+            read: 0,
             tick: 1,
             refused: false,
         })
@@ -114,20 +107,16 @@ impl Run {
         out: &mut K,
     ) -> Result<(), Stop>
         requires tick { self.old.tick < 2 ^ 60 }
-        requires stands { Stands program.now self.old }
+        requires read { self.old.read < 2 ^ 60 }
+        requires stands { (lists : Tables) × IsAt program.now lists self.old }
         requires fits { Fits program.now.catalog line }
-        ensures stands { OnOk result (Stands program.now self.new) }
-        ensures still { OnOk result ((later : List Said)
-            → still program.now self.old (line ∷ later) ≡ brought program.now self.old line ++ still program.now self.new later) }
-        ensures tick { OnOk result (self.new.tick ≡ self.old.tick + length (brought program.now self.old line)) }
-        ensures refused { OnOk result (self.new.refused
-            ≡ (self.old.refused || list_any (λ r. is_refusal r.1) (brought program.now self.old line))) }
-        ensures told { OnOk result (Appends (K.taken out.old) (K.taken out.new)
-            (texts_from program.now self.old.tick (brought program.now self.old line))) }
-        ensures stopped { IfErr result (Stopped (K.taken out.old) (K.taken out.new) (K.faults out.old) (K.faults out.new)
-            (texts_from program.now self.old.tick (brought program.now self.old line))) }
+        ensures goes { (lists : Tables) → IsAt program.now lists self.old → OnOk result ((now : Tables) × Goes program.now lists self.old line now self.new) }
+        ensures told { (lists : Tables) → IsAt program.now lists self.old → OnOk result (Appends (K.taken out.old) (K.taken out.new) (line_text program.now lists self.old line)) }
+        ensures stopped { (lists : Tables) → IsAt program.now lists self.old → IfErr result (Stopped (K.taken out.old) (K.taken out.new)
+            (K.faults out.old) (K.faults out.new) (line_text program.now lists self.old line)) }
         ensures later { K.faults out.old ≤ K.faults out.new }
     {
+        self.read += 1;
         if line.is_commit() {
             return self.close_tick(alloc, program, out);
         }
@@ -143,62 +132,48 @@ impl Run {
         out: &mut K,
     ) -> Result<(), Stop>
         requires tick { self.old.tick < 2 ^ 60 }
-        requires stands { Stands program.now self.old }
-        ensures stands { OnOk result (Stands program.now self.new) }
-        ensures closed { OnOk result (IsClosed program.now self.old self.new) }
-        ensures told { OnOk result (Appends (K.taken out.old) (K.taken out.new)
-            (tick_text_lem program.now self.old.tick self.old.shown.items (played program.now self.old))) }
-        ensures stopped { IfErr result (Stopped (K.taken out.old) (K.taken out.new) (K.faults out.old) (K.faults out.new)
-            (tick_text_lem program.now self.old.tick self.old.shown.items (played program.now self.old))) }
+        requires read { self.old.read ≤ 2 ^ 60 }
+        requires stands { (lists : Tables) × IsAt program.now lists self.old }
+        ensures closed { (lists : Tables) → IsAt program.now lists self.old → OnOk result ((now : Tables) × IsClosed program.now lists self.old now self.new) }
+        ensures told { (lists : Tables) → IsAt program.now lists self.old → OnOk result (Appends (K.taken out.old) (K.taken out.new) (waiting_text program.now lists self.old)) }
+        ensures stopped { (lists : Tables) → IsAt program.now lists self.old → IfErr result (Stopped (K.taken out.old) (K.taken out.new)
+            (K.faults out.old) (K.faults out.new) (waiting_text program.now lists self.old)) }
         ensures later { K.faults out.old ≤ K.faults out.new }
     {
-        let outcome = play_tick(alloc, program, &self.tables, &self.lines)?;
-        let text = tick_text(alloc, program, self.tick, &self.shown, &outcome)?;
+        let lines = std::mem::replace(&mut self.lines, Vec::new(alloc));
+        let outcome = play_tick(alloc, program, &mut self.engine, lines)?;
+        let text = outcome.text(alloc, program.catalog(), self.tick)?;
         put_all(out, &text)?;
-        self.take_outcome(outcome);
+        self.tick += 1;
+        self.refused = self.refused || outcome.is_refused();
         Ok(())
     }
 
-    // Goes on to the next tick.
-    fn take_outcome(&mut self, outcome: Outcome)
-        requires tick { self.old.tick < 2 ^ 60 }
-        ensures tables { self.new.tables.items ≡ tables_after self.old.tables.items (outcome_of outcome) }
-        ensures stands { (p : Meant) → Stands p self.old → Shows p outcome → Stands p self.new }
-        ensures lines { self.new.lines.items ≡ [] }
-        ensures tick { self.new.tick ≡ self.old.tick + 1 }
-        ensures refused { self.new.refused ≡ (self.old.refused || is_refusal (outcome_of outcome)) }
-    {
-        self.lines.clear();
-        self.tick += 1;
-        match outcome {
-            Outcome::Accepted { tables, shown } => {
-                self.tables = tables;
-                self.shown = shown;
-            }
-            Outcome::Refused(_) => self.refused = true,
-        }
-    }
-
-    /// Prints that the last tick is unfinished, if a line of it is not blank. Answers whether a tick was refused.
+    /// Prints that the last tick is unfinished, if a line of it is not blank. Answers whether a tick was refused, and the engine.
     pub fn finish<K: Sink>(
-        &self,
+        self,
         alloc: Global,
         program: &Program,
         out: &mut K,
-    ) -> Result<bool, Stop>
-        ensures refused { IfOk result (λ refused. refused
-            ≡ (self.now.refused || list_any (λ r. is_refusal r.1) (still program.now self.now []))) }
-        ensures told { OnOk result (Appends (K.taken out.old) (K.taken out.new) (texts_from program.now self.now.tick (still program.now self.now []))) }
-        ensures stopped { IfErr result (Stopped (K.taken out.old) (K.taken out.new) (K.faults out.old) (K.faults out.new)
-            (texts_from program.now self.now.tick (still program.now self.now []))) }
+    ) -> Result<Played, Stop>
+        ensures ended { (lists : Tables) → IfOk result (IsEnded program.now lists self) }
+        ensures told { (lists : Tables) → OnOk result (Appends (K.taken out.old) (K.taken out.new) (last_text program.now lists self)) }
+        ensures stopped { (lists : Tables) → IfErr result (Stopped (K.taken out.old) (K.taken out.new) (K.faults out.old) (K.faults out.new)
+            (last_text program.now lists self)) }
         ensures later { K.faults out.old ≤ K.faults out.new }
     {
         if all_blank(&self.lines) {
-            return Ok(self.refused);
+            return Ok(Played {
+                refused: self.refused,
+                engine: self.engine,
+            });
         }
         let text = refusal_text(alloc, self.tick, &Refusal::Unfinished)?;
         put_all(out, &text)?;
-        Ok(true)
+        Ok(Played {
+            refused: true,
+            engine: self.engine,
+        })
     }
 }
 

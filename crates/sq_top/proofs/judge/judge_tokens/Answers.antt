@@ -2,7 +2,7 @@ use Rattle.std.proofs.lemmas.Result.{err_from_is_err_and, IfErr-weaker, IfOk-wea
 use Rattle.std.proofs.Common.{arith, subst, sym}
 use Rattle.sq_ast.specs.Spelling.{Spells}
 use Rattle.sq_check.proofs.QueriesSpelled.{each_spelled}
-use Rattle.sq_top.proofs.Judging.{parse_stops, statements_stop}
+use Rattle.sq_top.proofs.Judging.{few_sources, parse_stops, statements_stop}
 use Rattle.sq_top.proofs.judge.judge_tokens.Goals as goal
 
 pub returns-in_err-statements-clause-refused : goal.returns-in_err-statements-clause-refused
@@ -17,7 +17,11 @@ returns-clause-refused c =
     c.judge_statements.ensures.refused
 
 pub judge_statements-requires : goal.judge_statements-requires
-judge_statements-requires c = each_spelled c.args.tokens.now c.deref.result.now (omega (arith, c.requires)) (subst (Spells c.args.tokens.now) (sym c.deref.ensures.value) c.in_ok-statements.ensures.found)
+judge_statements-requires c = record {
+  workers = c.requires.workers;
+  few = few_sources c.args.tokens.now c.deref.result.now _ c.requires.short c.deref.ensures.value c.in_ok-statements.ensures.sources;
+  spelled = each_spelled c.args.tokens.now c.deref.result.now (omega (arith, c.requires.short)) (subst (Spells c.args.tokens.now) (sym c.deref.ensures.value) c.in_ok-statements.ensures.found);
+}
 
 pub returns-clause-accepted : goal.returns-clause-accepted
 returns-clause-accepted c =

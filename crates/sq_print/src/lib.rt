@@ -1,0 +1,23 @@
+//! The texts that the program prints: the blocks of ticks, the lines of refused ones, and the line of a program's fault.
+#![tactic(auto)]
+
+mod blocks;
+mod fault_lines;
+mod json_text;
+mod program_fault;
+mod refusal;
+mod refusals;
+
+pub use blocks::block_text;
+pub use fault_lines::fault_text;
+pub use program_fault::ProgramFault;
+pub use refusal::Refusal;
+pub use refusals::refusal_text;
+
+fn is_send_and_sync<T: Send + Sync>() {}
+
+// Refusals and faults may be handed to another thread, and be shared.
+fn data_crosses_threads() {
+    is_send_and_sync::<Refusal>();
+    is_send_and_sync::<ProgramFault>();
+}
