@@ -16,3 +16,4 @@ pub mod Staying
 pub mod Ending
 pub mod Judging
 pub mod Composing
+pub mod Explaining

@@ -10,3 +10,4 @@ pub mod Gives
 pub mod Listed
 pub mod Begun
 pub mod Pieces
+pub mod Explained

@@ -6,7 +6,9 @@ mod changes;
 mod circuit;
 pub mod laws;
 mod node;
+mod text;
 
 pub use changes::Changes;
 pub use circuit::{Circuit, Part};
 pub use node::{LinearOp, Node};
+pub use text::explain;

@@ -2,10 +2,10 @@
 ghost use Rattle.std.specs.Prelude.{◌≡◌, ◌∷◌, [], Some, IsTrue, IfOk};
 ghost use Rattle.sq_expr.specs.Typing.{sort_of};
 ghost use Rattle.sq_expr.specs.declared.typing.Sort.TheVariants.{Numeric as Numbers};
-ghost use Rattle.sq_tests_circuits.specs.Small.{by_number, numbers, totals};
+ghost use Rattle.sq_tests_circuits.specs.Small.{IsSample, by_number, numbers, totals};
 
 use crate::circuits::{Answer, answer_of, blamed, check_node, small_circuit};
-use sq_circuit::{LinearOp, Node};
+use sq_circuit::{Circuit, LinearOp, Node, explain};
 use sq_expr::{Cmp, Cond, Expr, Func, Kind, Sort, expr_sort, suits, suits_cond};
 use sq_ops::{AggSpec, Call, Keep, Pad, Pairing, Project};
 use sq_value::NoMemory;
@@ -120,7 +120,9 @@ fn by_number(alloc: Global) -> Result<Pairing, NoMemory>
     })
 }
 
-fn joined(alloc: Global, first: &[(i64, i64)], second: &[(i64, i64)]) -> Result<Answer, Fail> {
+fn join_circuit(alloc: Global) -> Result<Circuit, NoMemory>
+    ensures { IfOk result IsSample }
+{
     let op = by_number(alloc)?;
     let kinds = [Kind::Bigint, Kind::Bigint];
     let node = Node::Join {
@@ -128,8 +130,23 @@ fn joined(alloc: Global, first: &[(i64, i64)], second: &[(i64, i64)]) -> Result<
         right: 1,
         op,
     };
-    let circuit = small_circuit(alloc, node, &kinds, true)?;
+    small_circuit(alloc, node, &kinds, true)
+}
+
+fn joined(alloc: Global, first: &[(i64, i64)], second: &[(i64, i64)]) -> Result<Answer, Fail> {
+    let circuit = join_circuit(alloc)?;
     answer_of(alloc, &circuit, first, second)
+}
+
+#[test]
+fn each_node_has_a_line(rt: HostRuntime) -> Result<(), Fail> {
+    let alloc = rt.alloc();
+    let circuit = join_circuit(alloc)?;
+    let text = explain(alloc, &circuit)?;
+    let lines =
+        b"{\"node\":0,\"kind\":\"table\",\"inputs\":[]}\n{\"node\":1,\"kind\":\"table\",\"inputs\":[]}\n{\"node\":2,\"kind\":\"join\",\"inputs\":[0,1]}\n{\"node\":3,\"kind\":\"view\",\"inputs\":[2]}\n";
+    assert!(rt; text.as_slice() == lines.as_slice(), "other lines");
+    Ok(())
 }
 
 #[test]
