@@ -1,0 +1,10 @@
+pub mod Rising
+pub mod Entered
+pub mod Begun
+pub mod Stepped
+pub mod Shares
+pub mod RowSteps
+pub mod JoinSteps
+pub mod Homing
+pub mod GroupSteps
+pub mod Matching

@@ -1,0 +1,5 @@
+pub mod Refusals
+pub mod Empty
+pub mod Keeps
+pub mod Entering
+pub mod Steps

@@ -1,0 +1,15 @@
+//! What the nodes of a circuit keep in one shard, and the step of one node.
+#![tactic(auto)]
+
+mod aggregate;
+mod entries;
+mod join;
+mod kept;
+mod linear;
+mod piece;
+mod rows;
+mod step;
+
+pub use kept::{NodeState, States};
+pub use piece::{NodeFault, Piece, StateChange, StepRefusal};
+pub use step::node_step;
