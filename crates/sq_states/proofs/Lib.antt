@@ -8,3 +8,4 @@ pub mod JoinSteps
 pub mod Homing
 pub mod GroupSteps
 pub mod Matching
+pub mod Prepared

@@ -3,3 +3,4 @@ pub mod Empty
 pub mod Keeps
 pub mod Entering
 pub mod Steps
+pub mod Committing

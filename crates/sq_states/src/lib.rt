@@ -2,14 +2,17 @@
 #![tactic(auto)]
 
 mod aggregate;
+mod commit;
 mod entries;
 mod join;
 mod kept;
 mod linear;
 mod piece;
+mod ready;
 mod rows;
 mod step;
 
 pub use kept::{NodeState, States};
 pub use piece::{NodeFault, Piece, StateChange, StepRefusal};
+pub use ready::{Ready, ReadyTraces};
 pub use step::node_step;
