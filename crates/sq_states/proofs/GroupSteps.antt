@@ -25,7 +25,7 @@ use Rattle.sq_trace.specs.declared.entry.Entry.{Entry}
 use Rattle.sq_zset.specs.GroupLaws.{rows_are_abelian}
 use Rattle.sq_zset.specs.Range.{IsInRange}
 use Rattle.sq_zset.proofs.RowKeys.{at_key-zero, cut-zero}
-use Rattle.sq_states.specs.Keeps.{HoldsGroups, IsChanged, OnGroups}
+use Rattle.sq_states.specs.Keeps.{HoldsGroups, IsChanged, OnGroups, change_kind}
 use Rattle.sq_states.specs.Steps.{IsFault, IsStepped, NodeStep, cost_of, left_after, piece_at}
 use Rattle.sq_states.specs.declared.kept.NodeState.{NodeState}
 use Rattle.sq_states.specs.declared.kept.NodeState.TheVariants as state
@@ -36,6 +36,7 @@ use Rattle.sq_states.specs.declared.piece.StepRefusal.{StepRefusal}
 use Rattle.sq_states.specs.declared.piece.StepRefusal.TheVariants as refusal
 use Rattle.sq_states.specs.declared.piece.StateChange.TheVariants as change
 use Rattle.sq_states.proofs.Homing.{touched_here, within_cost}
+use Rattle.sq_states.proofs.ShardSums.{sums_in_shard}
 use Rattle.sq_states.proofs.Rising.{begun, core_after, core_before, later, nothing_before}
 use Rattle.sq_states.proofs.Shares.{after_cut, each_cut, each_of, small_after, small_cut}
 use Rattle.sq_states.proofs.Stepped.{out_of_memory, refused, same_fault, stepped}
@@ -108,7 +109,7 @@ module _ (i : ℕ) (spec : AggSpec) (accs : KeptAccumulators) (ordered shown : K
       old_bounded = (small_cut h.S (group_of spec) h.s h.y h.takes.old_listed).bounded;
       not_negative = (small_after h.S (group_of spec) h.s h.y h.dy d h.left_is h.takes.new_listed).not_negative;
       bounded = (small_after h.S (group_of spec) h.s h.y h.dy d h.left_is h.takes.new_listed).bounded;
-      all_sums = h.takes.all_sums;
+      all_sums = sums_in_shard h.S spec h.y h.takes.all_sums h.s;
     }
 
     -- ---- the piece
@@ -179,7 +180,7 @@ module _ (i : ℕ) (spec : AggSpec) (accs : KeptAccumulators) (ordered shown : K
       stepped (Aggregate i spec) (state.Groups accs ordered shown) d right first from to p
       (λ h. group_piece h p.change is) in_range
       (λ h now changed. groups_kept h now da ds de keeps_accs keeps_ordered keeps_shown (subst (λ c. IsChanged (state.Groups accs ordered shown) c now) is_change changed))
-      (λ h. record { values = refl; sums = sums_after h None sums }) (λ h. group_few h from to few)
+      (λ h. ap change_kind is_change) (λ h. record { values = refl; sums = sums_after h None sums }) (λ h. group_few h from to few)
 
 -- a SUM outside the range of BIGINT
 module _ (i : ℕ) (spec : AggSpec) (accs : KeptAccumulators) (ordered shown : KeptWeights) (d right : Rows) (first : Bool) (from to : ℕ) (few : to ≤ from + agg_cost first spec d) where

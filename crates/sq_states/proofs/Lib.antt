@@ -9,3 +9,6 @@ pub mod Homing
 pub mod GroupSteps
 pub mod Matching
 pub mod Prepared
+pub mod ShardSums
+pub mod Starting
+pub mod Staying

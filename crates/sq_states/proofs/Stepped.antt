@@ -17,13 +17,14 @@ use Rattle.sq_linear.specs.declared.fault.LinearFault.TheVariants as linear
 use Rattle.sq_zset.specs.declared.pair.ZFault.{ZFault}
 use Rattle.sq_zset.specs.declared.pair.ZFault.TheVariants as zset
 use Rattle.sq_states.specs.Refusals.{of_linear, of_sum}
-use Rattle.sq_states.specs.Keeps.{IsChanged, KeepsNothing}
+use Rattle.sq_states.specs.Keeps.{IsChanged, KeepsNothing, change_kind, state_kind}
 use Rattle.sq_states.specs.Steps.{IsFault, IsStepChange, IsStepped, KeepsState, NodeStep, NoFault, cost_of, piece_at}
 use Rattle.sq_states.specs.declared.kept.NodeState.{NodeState}
 use Rattle.sq_states.specs.declared.kept.NodeState.TheVariants as state
 use Rattle.sq_states.specs.declared.piece.NodeFault.{NodeFault}
 use Rattle.sq_states.specs.declared.piece.NodeFault.TheVariants as fault
 use Rattle.sq_states.specs.declared.piece.Piece.{Piece}
+use Rattle.sq_states.specs.declared.piece.StateChange.{StateChange}
 use Rattle.sq_states.specs.declared.piece.StateChange.TheVariants as change
 use Rattle.sq_states.specs.declared.piece.StepRefusal.{StepRefusal}
 use Rattle.sq_states.specs.declared.piece.StepRefusal.TheVariants as refusal
@@ -34,13 +35,13 @@ module _ (n : Node) (kept : NodeState) (left right : Rows) (first : Bool) (old n
   abbrev pub WithinCost : Type 0
   WithinCost = (b : NodeStep n kept left right first) → new ≤ old + cost_of b
 
-  pub stepped : (p : Piece) → IsStepChange n kept left right first p → IsInRange p.change → KeepsState n kept left right first p → ((b : NodeStep n kept left right first) → NoFault b) → WithinCost
+  pub stepped : (p : Piece) → IsStepChange n kept left right first p → IsInRange p.change → KeepsState n kept left right first p → ((b : NodeStep n kept left right first) → change_kind p.kept ≡ state_kind kept) → ((b : NodeStep n kept left right first) → NoFault b) → WithinCost
       → IsStepped n kept left right first (Ok p) old new
-  stepped p change in_range keeps faultless few = record { change = change; in_range = in_range; keeps = keeps; faultless = faultless; faulty = λ f e. absurd (cc e); count = few }
+  stepped p change in_range keeps kind faultless few = record { change = change; in_range = in_range; keeps = keeps; kind = kind; faultless = faultless; faulty = λ f e. absurd (cc e); count = few }
 
   pub refused : (e : StepRefusal) (result : Result Piece StepRefusal) → result ≡ Err e → ((f : NodeFault) → e ≡ refusal.Fault f → (b : NodeStep n kept left right first) → IsFault b f) → WithinCost
       → IsStepped n kept left right first result old new
-  refused e result is faulty few = subst (λ r. IsStepped n kept left right first r old new) (sym is) (record { change = tt; in_range = tt; keeps = tt; faultless = tt; faulty = λ f same. faulty f (inside same); count = few })
+  refused e result is faulty few = subst (λ r. IsStepped n kept left right first r old new) (sym is) (record { change = tt; in_range = tt; keeps = tt; kind = tt; faultless = tt; faulty = λ f same. faulty f (inside same); count = few })
     where
       inside : {f : NodeFault} → ◌≡◌ {A = Result Piece StepRefusal} (Err e) (Err (refusal.Fault f)) → e ≡ refusal.Fault f
       inside same = cc same
@@ -82,6 +83,12 @@ nothing_kept (state.Rows parts) now h k = absurd h
 nothing_kept (state.Sides a b) now h k = absurd h
 nothing_kept (state.Groups accs ordered shown) now h k = absurd h
 
+nothing_kind : (kept : NodeState) (c : StateChange) → c ≡ change.Nothing → KeepsNothing kept → change_kind c ≡ state_kind kept
+nothing_kind state.Nothing c e k = ap change_kind e
+nothing_kind (state.Rows parts) c e k = absurd k
+nothing_kind (state.Sides a b) c e k = absurd k
+nothing_kind (state.Groups accs ordered shown) c e k = absurd k
+
 -- ---- nodes that keep nothing
 module _ (kept : NodeState) (first : Bool) (count : ℕ) where
   module _ (i : ℕ) (op : LinearOp) (d right : Rows) where
@@ -93,6 +100,7 @@ module _ (kept : NodeState) (first : Bool) (count : ℕ) where
         stepped (Linear i op) kept d right first count count p
         (λ b. linear_piece b p.change is) in_range
         (λ b now changed. nothing_kept kept now (subst (λ c. IsChanged kept c now) nothing changed) b.keeps)
+        (λ b. nothing_kind kept p.kept nothing b.keeps)
         (λ b. record { values = values; sums = refl })
         (λ b. no_steps count _)
 
@@ -121,12 +129,14 @@ module _ (kept : NodeState) (first : Bool) (count : ℕ) where
     plus_steps p nothing is in_range =
         stepped (Plus l r) kept left right first count count p (λ b. is ∙ plus_piece b) in_range
         (λ b now changed. nothing_kept kept now (subst (λ c. IsChanged kept c now) nothing changed) b.keeps)
+        (λ b. nothing_kind kept p.kept nothing b.keeps)
         (λ b. record { values = refl; sums = refl }) (λ b. no_steps count _)
 
     pub minus_steps : (p : Piece) → p.kept ≡ change.Nothing → p.change ≡ minus left right → IsInRange p.change → IsStepped (Minus l r) kept left right first (Ok p) count count
     minus_steps p nothing is in_range =
         stepped (Minus l r) kept left right first count count p (λ b. is ∙ minus_piece b) in_range
         (λ b now changed. nothing_kept kept now (subst (λ c. IsChanged kept c now) nothing changed) b.keeps)
+        (λ b. nothing_kind kept p.kept nothing b.keeps)
         (λ b. record { values = refl; sums = refl }) (λ b. no_steps count _)
 
   pub view_steps : (i v : ℕ) (d right : Rows) (p : Piece) → p.kept ≡ change.Nothing → p.change ≡ d → IsInRange p.change → IsStepped (View i v) kept d right first (Ok p) count count
@@ -134,4 +144,5 @@ module _ (kept : NodeState) (first : Bool) (count : ℕ) where
       stepped (View i v) kept d right first count count p
       (λ b. is ∙ piece_is (View i v) kept d right first count count refl b d (sym (row_rise (cut b.S (λ row. row) b.s b.y) d))) in_range
       (λ b now changed. nothing_kept kept now (subst (λ c. IsChanged kept c now) nothing changed) b.keeps)
+      (λ b. nothing_kind kept p.kept nothing b.keeps)
       (λ b. record { values = refl; sums = refl }) (λ b. no_steps count _)

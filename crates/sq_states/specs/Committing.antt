@@ -1,21 +1,29 @@
 -- What is prepared of a node's traces, and what a commit makes of its state.
 --     StaysInRange state change     at each place what a trace holds and its change together lie in the range
+--     is_aggregate n                whether the node is an Aggregate
 --     taken parts ready             a trace after what was prepared of it; one that does not change stays
 --     CanTake G outside parts ready      the trace has the parts that are to stay, and adds up within the range afterwards
 --     CanCommit state traces        each trace of the state can take what was prepared
 --     state_after state traces      the state after that
 --     IsReadyFor state change traces     it can be committed, and is then the state with the change
-use Rattle.std.specs.Prelude.{◌≡◌, ℕ, ◌≤◌, List, length, ℤ, Option, Some, None, ⊤}
+--     CommitsKeep, PiecesStay n kept      a state that takes what was prepared keeps the new rows; its traces stay in range with a piece
+use Rattle.std.specs.Prelude.{◌≡◌, ℕ, ◌≤◌, Bool, true, false, List, length, ℤ, Option, Some, None, ⊤}
 use Rattle.std.specs.Ordering.{nat_cmp}
 use Rattle.sq_algebra.specs.Groups.{AbelianGroup, integers, z_sets}
 use Rattle.sq_agg.specs.Accumulators.{first_number_outside}
 use Rattle.sq_agg.specs.Aggregating.{IsAfter}
 use Rattle.sq_agg.specs.Stepping.{Accumulator}
+use Rattle.sq_algebra.specs.ZSet.{plus}
+use Rattle.sq_circuit.specs.Nodes.{Rows}
+use Rattle.sq_circuit.specs.declared.node.Node.{Node}
+use Rattle.sq_circuit.specs.declared.node.Node.TheVariants.{Table, Linear, Join, Distinct, Aggregate, Plus, Minus, View}
 use Rattle.sq_trace.specs.Changes.{changed, committed}
 use Rattle.sq_trace.specs.Runs.{AddsUpInRange, Place}
 use Rattle.sq_trace.specs.declared.entry.Entry.{Entry}
-use Rattle.sq_zset.specs.Range.{number_outside}
-use Rattle.sq_states.specs.Keeps.{IsChanged}
+use Rattle.sq_zset.specs.Range.{IsInRange, number_outside}
+use Rattle.sq_states.specs.Keeps.{IsChanged, change_kind, state_kind}
+use Rattle.sq_states.specs.Steps.{KeepsAfter, KeepsState, NodeStep}
+use Rattle.sq_states.specs.declared.piece.Piece.{Piece}
 use Rattle.sq_states.specs.declared.kept.NodeState.{NodeState}
 use Rattle.sq_states.specs.declared.kept.NodeState.TheVariants as state
 use Rattle.sq_states.specs.declared.piece.StateChange.{StateChange}
@@ -50,6 +58,16 @@ abbrev pub TakesAccumulators : List (List (Entry Accumulator)) → Option (ℕ �
 TakesAccumulators parts p = CanTake (z_sets nat_cmp) first_number_outside parts p
 
 -- ---- the traces of a node
+abbrev pub is_aggregate : Node → Bool
+is_aggregate (Table t) = false
+is_aggregate (Linear i op) = false
+is_aggregate (Join l r op) = false
+is_aggregate (Distinct i) = false
+is_aggregate (Aggregate i spec) = true
+is_aggregate (Plus l r) = false
+is_aggregate (Minus l r) = false
+is_aggregate (View i v) = false
+
 abbrev pub StaysInRange : NodeState → StateChange → Type 0
 StaysInRange state.Nothing change.Nothing = ⊤
 StaysInRange state.Nothing (change.Rows d) = ⊥
@@ -115,3 +133,14 @@ state_after (state.Groups accs ordered shown) traces = groups_after accs ordered
 pub record IsReadyFor (kept : NodeState) (d : StateChange) (traces : ReadyTraces) : Type 0 where
   pub can : CanCommit kept traces
   pub changed : IsChanged kept d (state_after kept traces)
+
+-- ---- words of the laws
+abbrev pub CommitsKeep : Node → NodeState → Type 0
+CommitsKeep n kept =
+    (left right : Rows) (first : Bool) (b : NodeStep n kept left right first) (p : Piece) (traces : ReadyTraces) → KeepsState n kept left right first p → IsReadyFor kept p.kept traces
+    → KeepsAfter b (state_after kept traces)
+
+abbrev pub PiecesStay : Node → NodeState → Type 0
+PiecesStay n kept =
+    (left right : Rows) (first : Bool) (b : NodeStep n kept left right first) (p : Piece) → IsInRange (plus b.y b.dy) → IsInRange (plus b.z b.dz) → change_kind p.kept ≡ state_kind kept
+    → KeepsState n kept left right first p → StaysInRange kept p.kept

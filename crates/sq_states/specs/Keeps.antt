@@ -3,6 +3,7 @@
 --                                         z on its right. If `start` is true, nothing was there before, and nothing is shown
 --     HoldsGroups start S s spec .. y     what an aggregate keeps: accumulators, arguments, and the shown rows of the groups of the shard
 --     IsChanged state change now          the state after its change: each trace holds what it held and its change together
+--     state_kind state, change_kind d     which of the four kinds of state it is, or is the change of
 --     IsPieceOf start n S s y dy z dz answer     what the node's share of the new rows has more than that of the old ones
 --     OnNode c i states P                 P holds of the node i and its state
 use Rattle.std.specs.Prelude.{◌≡◌, ℕ, Bool, List, slice_get, Some, ⊤}
@@ -77,6 +78,18 @@ abbrev pub KeepsNode : Bool → Shards (List Value) → ℕ → Node → NodeSta
 KeepsNode start S s n state y z = KeepsParts start S s n state (cut S (left_key n) s y) (cut S (right_key n) s z)
 
 -- ---- changes
+abbrev pub state_kind : NodeState → ℕ
+state_kind state.Nothing = 0
+state_kind (state.Rows parts) = 1
+state_kind (state.Sides a b) = 2
+state_kind (state.Groups accs ordered shown) = 3
+
+abbrev pub change_kind : StateChange → ℕ
+change_kind change.Nothing = 0
+change_kind (change.Rows d) = 1
+change_kind (change.Sides da db) = 2
+change_kind (change.Groups daccs dordered dshown) = 3
+
 abbrev pub IsChanged : NodeState → StateChange → NodeState → Type 0
 IsChanged state.Nothing change.Nothing now = KeepsNothing now
 IsChanged state.Nothing (change.Rows d) now = ⊥

@@ -9,7 +9,7 @@ use Rattle.sq_algebra.specs.Keyed.{Shards, cut}
 use Rattle.sq_algebra.specs.ZSet.{minus, plus}
 use Rattle.sq_expr.specs.declared.expr.Kind.{Kind}
 use Rattle.sq_zset.specs.Range.{IsInRange, first_outside}
-use Rattle.sq_ops.specs.Aggregates.{SuitsSpec, first_sum_outside, group_of}
+use Rattle.sq_ops.specs.Aggregates.{SuitsSpec, first_sum_outside}
 use Rattle.sq_ops.specs.Extensions.{first_value_outside}
 use Rattle.sq_ops.specs.Fits.{FitsRows}
 use Rattle.sq_ops.specs.JoinLaws.{SuitsPairing}
@@ -22,7 +22,7 @@ use Rattle.sq_circuit.specs.NodeLaws.{share}
 use Rattle.sq_circuit.specs.Nodes.{Rows, left_key, none, right_key}
 use Rattle.sq_circuit.specs.declared.node.Node.{Node}
 use Rattle.sq_circuit.specs.declared.node.Node.TheVariants.{Table, Linear, Join, Distinct, Aggregate, Plus, Minus, View}
-use Rattle.sq_states.specs.Keeps.{IsChanged, KeepsNode}
+use Rattle.sq_states.specs.Keeps.{IsChanged, IsPieceOf, KeepsNode, change_kind, state_kind}
 use Rattle.sq_states.specs.declared.kept.NodeState.{NodeState}
 use Rattle.sq_states.specs.declared.piece.Piece.{Piece}
 use Rattle.sq_states.specs.declared.piece.NodeFault.{NodeFault}
@@ -45,23 +45,22 @@ pub record TakesSides (op : Pairing) (y dy z dz : Rows) : Type 0 where
   pub right_before : IsListed z
   pub right_after : IsListed (plus z dz)
 
--- of SUMs that is asked in the shard alone
-pub record TakesGroups (S : Shards (List Value)) (s : ℕ) (spec : AggSpec) (y dy : Rows) : Type 0 where
+pub record TakesGroups (spec : AggSpec) (y dy : Rows) : Type 0 where
   pub old_fits : FitsRows (SuitsSpec spec) y
   pub change_fits : FitsRows (SuitsSpec spec) dy
   pub old_listed : IsListed y
   pub new_listed : IsListed (plus y dy)
-  pub all_sums : first_sum_outside spec (cut S (group_of spec) s y) ≡ None
+  pub all_sums : first_sum_outside spec y ≡ None
 
-abbrev pub TakesRows : Shards (List Value) → ℕ → Node → (y dy z dz : Rows) → Type 0
-TakesRows S s (Table t) y dy z dz = ⊤
-TakesRows S s (Linear i op) y dy z dz = FitsRows (SuitsOp op) dy
-TakesRows S s (Join l r op) y dy z dz = TakesSides op y dy z dz
-TakesRows S s (Distinct i) y dy z dz = ⊤
-TakesRows S s (Aggregate i spec) y dy z dz = TakesGroups S s spec y dy
-TakesRows S s (Plus l r) y dy z dz = ⊤
-TakesRows S s (Minus l r) y dy z dz = ⊤
-TakesRows S s (View i v) y dy z dz = ⊤
+abbrev pub TakesRows : Node → (y dy z dz : Rows) → Type 0
+TakesRows (Table t) y dy z dz = ⊤
+TakesRows (Linear i op) y dy z dz = FitsRows (SuitsOp op) dy
+TakesRows (Join l r op) y dy z dz = TakesSides op y dy z dz
+TakesRows (Distinct i) y dy z dz = ⊤
+TakesRows (Aggregate i spec) y dy z dz = TakesGroups spec y dy
+TakesRows (Plus l r) y dy z dz = ⊤
+TakesRows (Minus l r) y dy z dz = ⊤
+TakesRows (View i v) y dy z dz = ⊤
 
 -- ---- a node before a step
 pub record NodeStep (n : Node) (state : NodeState) (left right : Rows) (first : Bool) : Type 0 where
@@ -78,7 +77,7 @@ pub record NodeStep (n : Node) (state : NodeState) (left right : Rows) (first : 
   pub first_is : first ≡ start && s == S.shard []
   pub begins_left : start ≡ true → y ≡ none
   pub begins_right : start ≡ true → z ≡ none
-  pub takes : TakesRows S s n y dy z dz
+  pub takes : TakesRows n y dy z dz
 
 -- ---- what it gives
 module _ {n : Node} {state : NodeState} {left right : Rows} {first : Bool} (b : NodeStep n state left right first) where
@@ -133,7 +132,7 @@ module _ {n : Node} {state : NodeState} {left right : Rows} {first : Bool} (b : 
 
 module _ (n : Node) (state : NodeState) (left right : Rows) (first : Bool) where
   abbrev pub IsStepChange : Piece → Type 0
-  IsStepChange made = (b : NodeStep n state left right first) → made.change ≡ piece_at b
+  IsStepChange made = (b : NodeStep n state left right first) → IsPieceOf b.start n b.S b.s b.y b.dy b.z b.dz made.change
 
   abbrev pub KeepsState : Piece → Type 0
   KeepsState made = (b : NodeStep n state left right first) (now : NodeState) → IsChanged state made.kept now → KeepsAfter b now
@@ -142,6 +141,7 @@ module _ (n : Node) (state : NodeState) (left right : Rows) (first : Bool) where
     pub change : IfOk result IsStepChange
     pub in_range : IfOk result (λ made. IsInRange made.change)
     pub keeps : IfOk result KeepsState
+    pub kind : IfOk result (λ made. (b : NodeStep n state left right first) → change_kind made.kept ≡ state_kind state)
     pub faultless : OnOk result ((b : NodeStep n state left right first) → NoFault b)
     pub faulty : (f : NodeFault) → result ≡ Err (refusal.Fault f) → (b : NodeStep n state left right first) → IsFault b f
     pub count : (b : NodeStep n state left right first) → new ≤ old + cost_of b

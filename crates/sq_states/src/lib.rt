@@ -6,6 +6,7 @@ mod commit;
 mod entries;
 mod join;
 mod kept;
+pub mod laws;
 mod linear;
 mod piece;
 mod ready;

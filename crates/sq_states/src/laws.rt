@@ -1,0 +1,56 @@
+//! What holds of states and steps, each as the contract of a function that does nothing.
+ghost use Rattle.std.specs.Prelude.{◌≡◌, ℕ, List, None, Some, false, true, slice_get};
+ghost use Rattle.sq_algebra.specs.Keyed.{Shards, cut};
+ghost use Rattle.sq_circuit.specs.Circuits.{node_at};
+ghost use Rattle.sq_circuit.specs.Nodes.{Rows, none};
+ghost use Rattle.sq_circuit.specs.declared.circuit.Part.{Part as Known};
+ghost use Rattle.sq_circuit.specs.declared.node.Node.{Node as Operator};
+ghost use Rattle.sq_ops.specs.Aggregates.{first_sum_outside, group_of};
+ghost use Rattle.sq_ops.specs.declared.aggregate.AggSpec.{AggSpec as Aggregating};
+ghost use Rattle.sq_states.specs.Committing.{CommitsKeep, PiecesStay, is_aggregate};
+ghost use Rattle.sq_states.specs.Empty.{empty_state, empty_states};
+ghost use Rattle.sq_states.specs.Keeps.{KeepsNode};
+ghost use Rattle.sq_states.specs.declared.kept.NodeState.{NodeState as Kept};
+ghost use Rattle.sq_value.specs.declared.value.Value.{Value as Datum};
+
+use crate::{Piece, Ready, States};
+
+/// Before anything was there, the state of each node keeps what belongs to no rows, in any shard.
+pub fn empty_states_keep_nothing()
+    ensures begins { (S : Shards (List Datum)) (s : ℕ) (n : Operator) → KeepsNode true S s n (empty_state n) none none }
+    ensures state { (c : List Known) (i : ℕ) (n : Operator) → node_at c i ≡ Some n → slice_get (empty_states c) i ≡ Some (empty_state n) }
+{}
+
+/// No SUM is outside the range of BIGINT exactly if none is in any shard; and none is over no rows.
+pub fn sums_are_tested_in_shards()
+    ensures shard { (S : Shards (List Datum)) (spec : Aggregating) (z : Rows) → first_sum_outside spec z ≡ None → (s : ℕ) → first_sum_outside spec (cut S (group_of spec) s z) ≡ None }
+    ensures all { (S : Shards (List Datum)) (spec : Aggregating) (z : Rows) → ((s : ℕ) → first_sum_outside spec (cut S (group_of spec) s z) ≡ None) → first_sum_outside spec z ≡ None }
+    ensures none { (spec : Aggregating) → first_sum_outside spec none ≡ None }
+{}
+
+/// A state that takes what was prepared for a piece keeps what belongs to the new rows.
+pub fn commits_keep_the_new_rows()
+    ensures { (n : Operator) (kept : Kept) → CommitsKeep n kept }
+{}
+
+/// The traces of a node that is no Aggregate stay in range with the change of a piece, if the new rows that it reads are in range.
+pub fn pieces_stay_in_range()
+    ensures { (n : Operator) (kept : Kept) → is_aggregate n ≡ false → PiecesStay n kept }
+{}
+
+fn is_send_and_sync<T: Send + Sync>() {}
+
+// The states may be handed to another thread, and be shared.
+fn states_cross_threads() {
+    is_send_and_sync::<States>();
+}
+
+// So may a piece.
+fn pieces_cross_threads() {
+    is_send_and_sync::<Piece>();
+}
+
+// So may what is prepared.
+fn prepared_traces_cross_threads() {
+    is_send_and_sync::<Ready>();
+}
