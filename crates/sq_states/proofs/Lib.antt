@@ -12,3 +12,4 @@ pub mod Prepared
 pub mod ShardSums
 pub mod Starting
 pub mod Staying
+pub mod ShardValues

@@ -1,11 +1,13 @@
 //! What holds of states and steps, each as the contract of a function that does nothing.
-ghost use Rattle.std.specs.Prelude.{◌≡◌, ℕ, List, None, Some, false, true, slice_get};
+ghost use Rattle.std.specs.Prelude.{◌≡◌, ◌↔◌, ℕ, ℤ, List, None, Some, false, true, slice_get};
 ghost use Rattle.sq_algebra.specs.Keyed.{Shards, cut};
+ghost use Rattle.sq_algebra.specs.ZSet.{plus};
 ghost use Rattle.sq_circuit.specs.Circuits.{node_at};
 ghost use Rattle.sq_circuit.specs.Nodes.{Rows, none};
 ghost use Rattle.sq_circuit.specs.declared.circuit.Part.{Part as Known};
 ghost use Rattle.sq_circuit.specs.declared.node.Node.{Node as Operator};
 ghost use Rattle.sq_ops.specs.Aggregates.{first_sum_outside, group_of};
+ghost use Rattle.sq_ops.specs.Extensions.{first_value_outside};
 ghost use Rattle.sq_ops.specs.declared.aggregate.AggSpec.{AggSpec as Aggregating};
 ghost use Rattle.sq_states.specs.Committing.{CommitsKeep, PiecesStay, is_aggregate};
 ghost use Rattle.sq_states.specs.Empty.{empty_state, empty_states};
@@ -26,6 +28,14 @@ pub fn sums_are_tested_in_shards()
     ensures shard { (S : Shards (List Datum)) (spec : Aggregating) (z : Rows) → first_sum_outside spec z ≡ None → (s : ℕ) → first_sum_outside spec (cut S (group_of spec) s z) ≡ None }
     ensures all { (S : Shards (List Datum)) (spec : Aggregating) (z : Rows) → ((s : ℕ) → first_sum_outside spec (cut S (group_of spec) s z) ≡ None) → first_sum_outside spec z ≡ None }
     ensures none { (spec : Aggregating) → first_sum_outside spec none ≡ None }
+{}
+
+/// No number that is tested of a row is outside the range of BIGINT exactly if none is in any shard. If none is over the old rows,
+/// none is over the changed rows exactly if none is over the new ones.
+pub fn values_are_tested_in_shards()
+    ensures shard { (tested : List Datum → List ℤ) (S : Shards (List Datum)) (key : List Datum → List Datum) (z : Rows) → first_value_outside tested z ≡ None → (s : ℕ) → first_value_outside tested (cut S key s z) ≡ None }
+    ensures all { (tested : List Datum → List ℤ) (S : Shards (List Datum)) (key : List Datum → List Datum) (z : Rows) → ((s : ℕ) → first_value_outside tested (cut S key s z) ≡ None) → first_value_outside tested z ≡ None }
+    ensures changed { (tested : List Datum → List ℤ) (y d : Rows) → first_value_outside tested y ≡ None → (first_value_outside tested d ≡ None) ↔ (first_value_outside tested (plus y d) ≡ None) }
 {}
 
 /// A state that takes what was prepared for a piece keeps what belongs to the new rows.
