@@ -1,7 +1,11 @@
 //! What holds of tasks and their orders, each as the contract of a function that does nothing.
-ghost use Rattle.std.specs.Prelude.{ℕ, List, []};
+ghost use Rattle.std.specs.Prelude.{◌≡◌, ◌<◌, ℕ, Bool, List, [], None};
+ghost use Rattle.sq_circuit.specs.Circuits.{verdict};
+ghost use Rattle.sq_circuit.specs.Invariant.{AreEarlier};
+ghost use Rattle.sq_circuit.specs.Nodes.{Rows};
 ghost use Rattle.sq_circuit.specs.declared.circuit.Part.{Part as Known};
 ghost use Rattle.sq_incr.specs.Orders.{IsLegal};
+ghost use Rattle.sq_incr.specs.Outcomes.{AllRan, AreLeft, AreTested, IsTick, Skipped, least_faulty, outcome, step};
 ghost use Rattle.sq_incr.specs.Play.{AnyOrderGives, HasPlayed, IsPlayable, OneMoreKeeps, StepOf, played};
 ghost use Rattle.sq_incr.specs.declared.task.Task.{Task as Turn};
 
@@ -15,6 +19,24 @@ pub fn play_gives_outcomes<O>()
     ensures one_more { (c : List Known) (n : ℕ) (start : O) (step : StepOf O) → IsPlayable c n step → OneMoreKeeps c n start step }
     ensures legal { (c : List Known) (n : ℕ) (start : O) (step : StepOf O) → IsPlayable c n step → (order : List Turn) → IsLegal c n order → HasPlayed start step order (played start step order) }
     ensures whole { (c : List Known) (n : ℕ) (start : O) (step : StepOf O) → IsPlayable c n step → AnyOrderGives c n start step }
+{}
+
+/// What becomes of a task of a tick depends on those that it needs alone, so each comes to its outcome in any whole legal order.
+/// If a task runs, it leaves its piece.
+pub fn tasks_that_run_leave_their_pieces()
+    ensures playable { (first : Bool) (c : List Known) (n : ℕ) (old : List Rows) (change : ℕ → Rows) → AreEarlier c → 0 < n → IsPlayable c n (step first c n old change) }
+    ensures orders { (first : Bool) (c : List Known) (n : ℕ) (old : List Rows) (change : ℕ → Rows) → AreEarlier c → 0 < n → AnyOrderGives c n Skipped (step first c n old change) }
+    ensures pieces { (first : Bool) (c : List Known) (n : ℕ) (old : List Rows) (change : ℕ → Rows) → AreEarlier c → 0 < n → AreLeft first c n old change }
+{}
+
+/// The tests of a node over all shards find a fault exactly where it has one over the new tables, if what it reads is sound; if
+/// not, its tasks are not run. So the least owner of a node with a fault that its tasks tell is the verdict, and with no
+/// verdict each task runs.
+pub fn verdicts_over_shards()
+    ensures tested { (first : Bool) (c : List Known) (n : ℕ) (old new : List Rows) (change : ℕ → Rows) → IsTick first c n old change new → AreTested first c n old change new }
+    ensures verdict { (first : Bool) (c : List Known) (n : ℕ) (old new : List Rows) (change : ℕ → Rows) → IsTick first c n old change new
+        → least_faulty first c n old change (outcome first c n old change) ≡ verdict c new }
+    ensures ran { (first : Bool) (c : List Known) (n : ℕ) (old new : List Rows) (change : ℕ → Rows) → IsTick first c n old change new → verdict c new ≡ None → AllRan first c n old change }
 {}
 
 fn is_send_and_sync<T: Send + Sync>() {}
