@@ -4,3 +4,5 @@ pub mod Sharing
 pub mod Running
 pub mod Testing
 pub mod Blaming
+pub mod Shares
+pub mod Fitting

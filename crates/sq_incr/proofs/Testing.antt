@@ -78,7 +78,7 @@ ran_is false z = refl
 
 module _ (first : Bool) (c : List Part) (n : ℕ) (above : 0 < n) (old : List Rows) (change : ℕ → Rows) (earlier : AreEarlier c) (new : List Rows) (changed : AreChanged first old change new) where
   -- ---- what sources hold now
-  now_is : (s : Source) → held_now first c (shards n) old change (pieces first c (shards n) old change) s ≡ whole_from c new s
+  pub now_is : (s : Source) → held_now first c (shards n) old change (pieces first c (shards n) old change) s ≡ whole_from c new s
   now_is Nowhere = neutral_right (z_sets row_cmp) rows_are_abelian (before first none) ∙ nothing first
     where
       nothing : (b : Bool) → before b none ≡ none

@@ -1,3 +1,4 @@
 pub mod Orders
 pub mod Play
 pub mod Outcomes
+pub mod Fits

@@ -1,9 +1,10 @@
 //! What holds of tasks and their orders, each as the contract of a function that does nothing.
 ghost use Rattle.std.specs.Prelude.{◌≡◌, ◌<◌, ℕ, Bool, List, [], None};
 ghost use Rattle.sq_circuit.specs.Circuits.{verdict};
-ghost use Rattle.sq_circuit.specs.Invariant.{AreEarlier};
+ghost use Rattle.sq_circuit.specs.Invariant.{AreEarlier, IsCircuit};
 ghost use Rattle.sq_circuit.specs.Nodes.{Rows};
 ghost use Rattle.sq_circuit.specs.declared.circuit.Part.{Part as Known};
+ghost use Rattle.sq_incr.specs.Fits.{PartsFit, PiecesFit, UnfitIsFaulty};
 ghost use Rattle.sq_incr.specs.Orders.{IsLegal};
 ghost use Rattle.sq_incr.specs.Outcomes.{AllRan, AreLeft, AreTested, IsTick, Skipped, least_faulty, outcome, step};
 ghost use Rattle.sq_incr.specs.Play.{AnyOrderGives, HasPlayed, IsPlayable, OneMoreKeeps, StepOf, played};
@@ -37,6 +38,15 @@ pub fn verdicts_over_shards()
     ensures verdict { (first : Bool) (c : List Known) (n : ℕ) (old new : List Rows) (change : ℕ → Rows) → IsTick first c n old change new
         → least_faulty first c n old change (outcome first c n old change) ≡ verdict c new }
     ensures ran { (first : Bool) (c : List Known) (n : ℕ) (old new : List Rows) (change : ℕ → Rows) → IsTick first c n old change new → verdict c new ≡ None → AllRan first c n old change }
+{}
+
+/// Where what a node reads is sound over the new tables, and was so over the old ones unless this is the start, its parts in each
+/// shard are in the range of a weight, and so are those of how it has changed. The pieces of a node that is sound itself are in
+/// range too. So a node with a piece out of range has a fault over the new tables.
+pub fn pieces_of_good_changes_fit()
+    ensures parts { (first : Bool) (c : List Known) (n : ℕ) (old new : List Rows) → IsCircuit c → PartsFit first c n old new }
+    ensures pieces { (first : Bool) (c : List Known) (n : ℕ) (old new : List Rows) (change : ℕ → Rows) → IsTick first c n old change new → PiecesFit first c n old change new }
+    ensures unfit { (first : Bool) (c : List Known) (n : ℕ) (old new : List Rows) (change : ℕ → Rows) → IsTick first c n old change new → UnfitIsFaulty first c n old change new }
 {}
 
 fn is_send_and_sync<T: Send + Sync>() {}
