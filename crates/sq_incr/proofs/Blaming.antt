@@ -15,10 +15,10 @@ use Rattle.sq_circuit.proofs.Alongside.{Below, least_agree, least_bound}
 use Rattle.sq_circuit.proofs.Evaluating.{sound_at}
 use Rattle.sq_circuit.proofs.Owning.{HasOwner, IsTableNode, all_sound, fault_unsound, faulty_owner, part_owned, reads_earlier, table_sound}
 use Rattle.sq_shard.specs.Shards.{shards}
-use Rattle.sq_incr.specs.Outcomes.{AllRan, AreTested, IsTick, Outcome, Broken, Ran, Skipped, Store, has_run, is_faulty, least_faulty, outcome, piece_in}
+use Rattle.sq_incr.specs.Outcomes.{AllRan, AreTested, IsTick, Outcome, Broken, Ran, Skipped, Store, has_run, is_faulty, least_faulty, outcome, piece_in, TotalsRise}
 use Rattle.sq_incr.proofs.Running.{leaves_piece}
 use Rattle.sq_incr.proofs.Sharing.{all_pass, at_shard}
-use Rattle.sq_incr.proofs.Testing.{and_true, are_tested, clear_is, not_faulty}
+use Rattle.sq_incr.proofs.Testing.{and_true, are_tested, clear_is, not_faulty, totals_rise}
 
 given : (b : Bool) (o : Option ℕ) (v : ℕ) → cond b o None ≡ Some v → (b ≡ true) × (o ≡ Some v)
 given true o v e = (refl, e)
@@ -129,6 +129,9 @@ module _ (first : Bool) (c : List Part) (n : ℕ) (old : List Rows) (change : �
 
   pub tested : AreTested first c n old change new
   tested = are_tested first c n tick.some old change earlier new tick.changed
+
+  pub totals : TotalsRise first c n old change new
+  totals = totals_rise first c n tick.some old change earlier new tick.changed
 
   -- ---- with no verdict all tasks run
   pub all_run : verdict c new ≡ None → AllRan first c n old change

@@ -1,6 +1,8 @@
 pub mod Playing
-pub mod Outside
 pub mod Sharing
+pub mod Ordering
+pub mod Standing
+pub mod Outside
 pub mod Running
 pub mod Testing
 pub mod Blaming

@@ -22,7 +22,7 @@ use Rattle.sq_circuit.specs.declared.circuit.Part.{Part}
 use Rattle.sq_circuit.proofs.Composing.{pieces_add_up}
 use Rattle.sq_circuit.proofs.Evaluating.{fault_at, sound_at, sound_is}
 use Rattle.sq_shard.specs.Shards.{shards}
-use Rattle.sq_incr.specs.Outcomes.{AreTested, Broken, Ran, Skipped, Store, breaks, has_run, holds_too_many, is_broken, is_clear, is_faulty, is_ready, outcome, pieces_in, ran_everywhere, total_now}
+use Rattle.sq_incr.specs.Outcomes.{AreTested, Broken, Ran, Skipped, Store, TotalsRise, breaks, has_run, holds_too_many, is_broken, is_clear, is_faulty, is_ready, outcome, pieces_in, ran_everywhere, total_now}
 use Rattle.sq_incr.proofs.Outside.{none_false, numbers_over_shards}
 use Rattle.sq_incr.proofs.Running.{leaves_piece, outcome_at, ready_outcome}
 use Rattle.sq_incr.proofs.Sharing.{all_pass}
@@ -96,16 +96,22 @@ module _ (first : Bool) (c : List Part) (n : ℕ) (above : 0 < n) (old : List Ro
   at_all = pieces first c (shards n) old change
 
   -- ---- the total of a node
+  -- it rises by those of the pieces
+  pub totals_rise : TotalsRise first c n old change new
+  totals_rise i =
+      ap (λ t. total (before first (whole c old i)) +ℤ t) (
+      sym (additive-sum_over (z_sets row_cmp) integers rows_are_abelian integers_are_abelian total total-IsAdditive (at_all i) (shards n).numbers)
+      ∙ ap total (pieces_add_up first c earlier (shards n) old change new changed i))
+      ∙ sym (total-plus (before first (whole c old i)) (minus (whole c new i) (before first (whole c old i))))
+      ∙ ap total (plus-minus_back (z_sets row_cmp) rows_are_abelian (before first (whole c old i)) (whole c new i))
+
   total_is : (i : ℕ) → ran_everywhere first c n old change out i ≡ true → total_now first c n old change out i ≡ total (whole c new i)
   total_is i ran =
       ap (λ t. total (before first (whole c old i)) +ℤ t) (
       sum_over_agree_at integers (λ s. total (pieces_in out i s)) (λ s. total (at_all i s)) (shards n).numbers
       (All-weaker (λ s. has_run (out i s) ≡ true) (λ s. total (pieces_in out i s) ≡ total (at_all i s)) (λ s runs. ap total (leaves_piece first c n above old change earlier i s runs)) (shards n).numbers
-      (all_pass (λ s. has_run (out i s)) (shards n).numbers ran))
-      ∙ sym (additive-sum_over (z_sets row_cmp) integers rows_are_abelian integers_are_abelian total total-IsAdditive (at_all i) (shards n).numbers)
-      ∙ ap total (pieces_add_up first c earlier (shards n) old change new changed i))
-      ∙ sym (total-plus (before first (whole c old i)) (minus (whole c new i) (before first (whole c old i))))
-      ∙ ap total (plus-minus_back (z_sets row_cmp) rows_are_abelian (before first (whole c old i)) (whole c new i))
+      (all_pass (λ s. has_run (out i s)) (shards n).numbers ran)))
+      ∙ totals_rise i
 
   -- ---- a node whose sources may be read
   module _ (i : ℕ) (p : Part) (e : slice_get c i ≡ Some p) where

@@ -8,10 +8,13 @@
 --     IsWhole c n order        no task is missing
 --     FirstIllegal c n order at     the task at this place, from 0, is the first that may not stand there
 --     first_missing c n order  the first task that is missing, by node and then by shard
-use Rattle.std.specs.Prelude.{◌≡◌, ℕ, ◌<◌, ◌==◌, Bool, not, ◌&&◌, List, length, map, take, slice_get, Option, Some, None, ◌⊎◌}
-use Rattle.std.specs.List.{Contains, find, flat_map, list_any}
+--     may_stand c n front t    whether t may stand there, as a test: the tasks of the nodes that it reads are there in all shards
+--     IsFirstMissing c n order t     t is missing, and no task before it is, by node and then by shard
+use Rattle.std.specs.Prelude.{◌≡◌, ℕ, ◌<◌, nat_lt, ◌==◌, Bool, true, not, ◌&&◌, List, length, map, take, slice_get, Option, Some, None, ◌⊎◌}
+use Rattle.std.specs.List.{Contains, find, flat_map, list_all, list_any}
 use Rattle.sq_algebra.specs.Keyed.{numbers_below}
-use Rattle.sq_circuit.specs.Nodes.{Source, Nowhere, Outer, Inner, left_source, right_source}
+use Rattle.sq_circuit.specs.Circuits.{are_sound}
+use Rattle.sq_circuit.specs.Nodes.{Source, Nowhere, Outer, Inner, left_source, read, right_source}
 use Rattle.sq_circuit.specs.declared.circuit.Part.{Part}
 use Rattle.sq_incr.specs.declared.task.Task.{Task}
 
@@ -63,5 +66,35 @@ pub record FirstIllegal (c : List Part) (n : ℕ) (order : List Task) (at : ℕ)
   pub front : IsLegal c n (take at order)
   pub illegal : MayStand c n (take at order) wrong → ⊥
 
+-- ---- tests
+abbrev pub is_in : List Task → Task → Bool
+is_in front t = list_any (is_same t) front
+
+abbrev pub is_done : List Task → ℕ → Source → Bool
+is_done front n s = read (λ t. true) (λ j. list_all (λ k. is_in front (task j k)) (numbers_below n)) true s
+
+abbrev pub may_stand : List Part → ℕ → List Task → Task → Bool
+may_stand c n front t = (nat_lt t.node (length c) && nat_lt t.shard n) && (not (is_in front t) && are_sound (slice_get c t.node) (is_done front n))
+
 abbrev pub first_missing : List Part → ℕ → List Task → Option Task
-first_missing c n order = find (λ t. not (list_any (is_same t) order)) (all_tasks c n)
+first_missing c n order = find (λ t. not (is_in order t)) (all_tasks c n)
+
+abbrev pub IsBefore : Task → Task → Type 0
+IsBefore u t = (u.node < t.node) ⊎ ((u.node ≡ t.node) × (u.shard < t.shard))
+
+pub record IsFirstMissing (c : List Part) (n : ℕ) (order : List Task) (t : Task) : Type 0 where
+  pub in_range : IsInRange c n t
+  pub missing : Contains order t → ⊥
+  pub before : (u : Task) → IsInRange c n u → IsBefore u t → Contains order u
+
+-- ---- words for laws
+-- the test tells whether a task may stand behind others
+pub record IsToldBy (c : List Part) (n : ℕ) (front : List Task) (t : Task) : Type 0 where
+  pub passes : MayStand c n front t → may_stand c n front t ≡ true
+  pub stands : may_stand c n front t ≡ true → MayStand c n front t
+
+-- no task is missing exactly if the order is whole, and else the one that is named is the first
+pub record TellsMissing (c : List Part) (n : ℕ) (order : List Task) : Type 0 where
+  pub none : IsWhole c n order → first_missing c n order ≡ None
+  pub whole : first_missing c n order ≡ None → IsWhole c n order
+  pub first : (t : Task) → first_missing c n order ≡ Some t → IsFirstMissing c n order t

@@ -10,6 +10,7 @@
 --     least_faulty .. store    the least owner of a faulty node
 --     IsTick .. new            a tick of a circuit, which takes the old tables to the new ones
 --     IsTested .. new i p      the tasks of the node i, of the part p, tell its faults.      AreTested .. new     so do those of each node
+--     TotalsRise .. new        the total of each node rises by those of its pieces
 use Rattle.std.specs.Prelude.{◌≡◌, ℕ, ◌<◌, ◌^◌, Bool, true, false, not, ◌&&◌, ◌||◌, if◌then◌else◌, List, length, slice_get, pos, int_lt, ℤ, ◌+ℤ◌, Option, Some, None}
 use Rattle.std.specs.List.{list_all, list_any}
 use Rattle.sq_algebra.specs.Groups.{integers}
@@ -119,3 +120,7 @@ module _ (first : Bool) (c : List Part) (n : ℕ) (old : List Rows) (change : �
 
   abbrev pub AreTested : Type 0
   AreTested = (i : ℕ) (p : Part) → slice_get c i ≡ Some p → IsTested i p
+
+  -- the total of each node rises by those of its pieces
+  abbrev pub TotalsRise : Type 0
+  TotalsRise = (i : ℕ) → total (before first (whole c old i)) +ℤ over_shards integers (shards n) (λ s. total (pieces first c (shards n) old change i s)) ≡ total (whole c new i)

@@ -1,16 +1,36 @@
 //! What holds of tasks and their orders, each as the contract of a function that does nothing.
-ghost use Rattle.std.specs.Prelude.{◌≡◌, ◌<◌, ℕ, Bool, List, [], None};
+ghost use Rattle.std.specs.Prelude.{◌≡◌, ◌+◌, ◌*◌, ◌<◌, ℕ, Bool, List, [], ◌∷◌, ◌++◌, length, slice_get, take, Some, None};
 ghost use Rattle.sq_circuit.specs.Circuits.{verdict};
 ghost use Rattle.sq_circuit.specs.Invariant.{AreEarlier, IsCircuit};
 ghost use Rattle.sq_circuit.specs.Nodes.{Rows};
 ghost use Rattle.sq_circuit.specs.declared.circuit.Part.{Part as Known};
 ghost use Rattle.sq_incr.specs.Fits.{PartsFit, PiecesFit, UnfitIsFaulty};
-ghost use Rattle.sq_incr.specs.Orders.{IsLegal};
-ghost use Rattle.sq_incr.specs.Outcomes.{AllRan, AreLeft, AreTested, IsTick, Skipped, least_faulty, outcome, step};
+ghost use Rattle.sq_incr.specs.Orders.{FirstIllegal, IsLegal, IsToldBy, IsWhole, MayStand, TellsMissing, all_tasks, task};
+ghost use Rattle.sq_incr.specs.Outcomes.{AllRan, AreLeft, AreTested, IsTick, Skipped, TotalsRise, least_faulty, outcome, step};
 ghost use Rattle.sq_incr.specs.Play.{AnyOrderGives, HasPlayed, IsPlayable, OneMoreKeeps, StepOf, played};
 ghost use Rattle.sq_incr.specs.declared.task.Task.{Task as Turn};
 
 use crate::Task;
+
+/// A legal order stays legal with one more task that may stand behind it, and so does its front. An order is legal or has a
+/// first task that may not stand where it does, and not both; whether a task may stand there is told by a test.
+pub fn orders_are_legal_up_to_a_place()
+    ensures longer { (c : List Known) (n : ℕ) (order : List Turn) (t : Turn) → IsLegal c n order → MayStand c n order t → IsLegal c n (order ++ t ∷ []) }
+    ensures front { (c : List Known) (n : ℕ) (order : List Turn) → IsLegal c n order → (k : ℕ) → IsLegal c n (take k order) }
+    ensures legal { (c : List Known) (n : ℕ) (order : List Turn) → ((at : ℕ) → FirstIllegal c n order at → ⊥) → IsLegal c n order }
+    ensures illegal { (c : List Known) (n : ℕ) (order : List Turn) (at : ℕ) → FirstIllegal c n order at → IsLegal c n order → ⊥ }
+    ensures one { (c : List Known) (n : ℕ) (order : List Turn) (at other : ℕ) → FirstIllegal c n order at → FirstIllegal c n order other → at ≡ other }
+    ensures test { (c : List Known) (n : ℕ) (front : List Turn) (t : Turn) → IsToldBy c n front t }
+{}
+
+/// An order is whole exactly if no task is missing in it, and the one that is named is the first by node and then by shard. All
+/// tasks by node and then by shard are a legal order, and a whole one; the task of a node has its place by both numbers.
+pub fn tasks_by_node_are_an_order()
+    ensures missing { (c : List Known) (n : ℕ) (order : List Turn) → TellsMissing c n order }
+    ensures legal { (c : List Known) (n : ℕ) → AreEarlier c → IsLegal c n (all_tasks c n) }
+    ensures whole { (c : List Known) (n : ℕ) → IsWhole c n (all_tasks c n) }
+    ensures place { (c : List Known) (n i s : ℕ) → i < length c → s < n → slice_get (all_tasks c n) (i * n + s) ≡ Some (task i s) }
+{}
 
 /// Tasks that are played one after the other leave the outcomes of those that were played, and nothing of the others: one more
 /// task keeps this, if it may stand there, so it holds of each legal order. If the order is whole too, all outcomes are there:
@@ -32,11 +52,12 @@ pub fn tasks_that_run_leave_their_pieces()
 
 /// The tests of a node over all shards find a fault exactly where it has one over the new tables, if what it reads is sound; if
 /// not, its tasks are not run. So the least owner of a node with a fault that its tasks tell is the verdict, and with no
-/// verdict each task runs.
+/// verdict each task runs. The total of a node, by which a place is tested, rises by those of its pieces.
 pub fn verdicts_over_shards()
     ensures tested { (first : Bool) (c : List Known) (n : ℕ) (old new : List Rows) (change : ℕ → Rows) → IsTick first c n old change new → AreTested first c n old change new }
     ensures verdict { (first : Bool) (c : List Known) (n : ℕ) (old new : List Rows) (change : ℕ → Rows) → IsTick first c n old change new
         → least_faulty first c n old change (outcome first c n old change) ≡ verdict c new }
+    ensures totals { (first : Bool) (c : List Known) (n : ℕ) (old new : List Rows) (change : ℕ → Rows) → IsTick first c n old change new → TotalsRise first c n old change new }
     ensures ran { (first : Bool) (c : List Known) (n : ℕ) (old new : List Rows) (change : ℕ → Rows) → IsTick first c n old change new → verdict c new ≡ None → AllRan first c n old change }
 {}
 

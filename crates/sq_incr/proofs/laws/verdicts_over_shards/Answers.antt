@@ -1,5 +1,5 @@
 -- Who is to blame, from what becomes of the tasks.
-use Rattle.sq_incr.proofs.Blaming.{all_run, tested, told_verdict}
+use Rattle.sq_incr.proofs.Blaming.{all_run, tested, told_verdict, totals}
 use Rattle.sq_incr.proofs.laws.verdicts_over_shards.Goals as goal
 
 pub returns-clause-tested : goal.returns-clause-tested
@@ -10,3 +10,6 @@ returns-clause-verdict a = λ first c n old new change. told_verdict first c n o
 
 pub returns-clause-ran : goal.returns-clause-ran
 returns-clause-ran a = λ first c n old new change. all_run first c n old change new
+
+pub returns-clause-totals : goal.returns-clause-totals
+returns-clause-totals a = λ first c n old new change. totals first c n old change new
