@@ -78,16 +78,16 @@ class Maker:
 
     def chain(self, depth, named, kinds):
         first, known = self.operand(depth, named, kinds)
+        if isinstance(first, Intersection) and self.chance(0.4):
+            return first, known
         kinds = [shape.is_text for shape in known.columns]
         steps = []
         for _ in range(self.draw.choice((1, 1, 2))):
-            operator = self.draw.choice(("UNION ALL", "UNION", "UNION", "EXCEPT", "EXCEPT"))
+            operator = self.draw.choice(("UNION ALL", "UNION ALL", "UNION", "UNION", "EXCEPT", "EXCEPT"))
             step, other = self.operand(depth, False, kinds)
             more = 0 if operator == "EXCEPT" else 1
             known = Relation(both(known, other), known.most + more * other.most, known.likely + more * other.likely)
             steps.append((operator, step))
-        if self.chance(0.15):
-            return first, Relation(known.columns, known.most, known.likely)
         return Chain(first, tuple(steps)), known
 
     def operand(self, depth, named, kinds):

@@ -12,7 +12,7 @@ Where the grammars differ, the text for a database says the same in its own way:
 import random
 import re
 
-from .trees import AllOf, AnyOf, Block, Call, Chain, Compare, Intersection, IsNull, Item, Negative, Not, Number, Product, Reference, Star, Sum, Text
+from .trees import AllOf, AnyOf, Block, Call, Chain, Compare, Intersection, IsNull, Negative, Not, Number, Product, Reference, Star, Sum, Text
 
 RESERVED = set(
     "all and as between by case create cross distinct else end except exists from full group having in inner intersect is join lateral left"
