@@ -85,7 +85,7 @@ module _ (c : List Part) (circuit : IsCircuit c) where
       at true is = listed_near (whole c old i) (whole c new i) ((circuit.bounded old i p e was).place is) ((circuit.bounded new i p e now).place is)
       at false is = circuit.steady old new i p e is was now
 
-  part_of : (i j : ℕ) → i < length c → j < i → (q : Part) × (slice_get c j ≡ Some q)
+  pub part_of : (i j : ℕ) → i < length c → j < i → (q : Part) × (slice_get c j ≡ Some q)
   part_of i j long low = at (slice_get_cases c j).1
     where
       at : ((q : Part) × (j < length c) × (slice_get c j ≡ Some q) × (get_or c j q ≡ q)) ⊎ ((length c ≤ j) × (slice_get c j ≡ None)) → (q : Part) × (slice_get c j ≡ Some q)
@@ -104,11 +104,17 @@ module _ (c : List Part) (circuit : IsCircuit c) where
       let found = part_of i j long low in
       node_near old new j found.0 found.1 (record { good = before; sound = was }) (record { good = after; sound = now })
 
-  change_fits : (first : Bool) (old new : List Rows) → IsGood c new → (first ≡ false → IsGood c old) → (i : ℕ) → i < length c → (s : Source) → IsEarlier i s → source_sound c new s ≡ true → (first ≡ false → source_sound c old s ≡ true)
+  pub change_fits : (first : Bool) (old new : List Rows) → IsGood c new → (first ≡ false → IsGood c old) → (i : ℕ) → i < length c → (s : Source) → IsEarlier i s → source_sound c new s ≡ true → (first ≡ false → source_sound c old s ≡ true)
       → IsInRange (costs.change first c old new s)
   change_fits true old new good was i long s low sound sounded =
       minus_fits none (whole_from c new s) (λ row. less_none (weight row (whole_from c new s)) (weight row none) (weight-zero row) (weights-in_range (whole_from c new s) (source_fits new good i long s low sound) row))
   change_fits false old new good was i long s low sound sounded = minus_fits (whole_from c old s) (whole_from c new s) (source_near old new (was refl) good i long s low (sounded refl) sound)
+
+  -- how a sound node has changed is in range
+  pub node_change_fits : (first : Bool) (old new : List Rows) (i : ℕ) (p : Part) → slice_get c i ≡ Some p → IsSoundAt c new i → (first ≡ false → IsSoundAt c old i) → IsInRange (minus (whole c new i) (before first (whole c old i)))
+  node_change_fits true old new i p e now was =
+      minus_fits none (whole c new i) (λ row. less_none (weight row (whole c new i)) (weight row none) (weight-zero row) (weights-in_range (whole c new i) (sound_in_range c new i p circuit e now) row))
+  node_change_fits false old new i p e now was = minus_fits (whole c old i) (whole c new i) (node_near old new i p e (was refl) now)
 
   -- what a node reads has no weight below 0, if it takes lists
   source_above : (tables : List Rows) → IsGood c tables → (i : ℕ) (p : Part) → slice_get c i ≡ Some p → i < length c → (s : Source) → IsEarlier i s → source_sound c tables s ≡ true

@@ -8,3 +8,6 @@ pub mod Testing
 pub mod Blaming
 pub mod Shares
 pub mod Fitting
+pub mod Taking
+pub mod Noting
+pub mod Summing

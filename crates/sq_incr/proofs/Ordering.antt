@@ -150,11 +150,11 @@ pub in_contains : (xs : List Task) (t : Task) → is_in xs t ≡ true → Contai
 in_contains xs t e = let at = in_to t xs e in contained xs at.0 t at.1
 
 -- ---- all tasks, by node and then by shard
-length-numbers : (n : ℕ) → length (numbers_below n) ≡ n
+pub length-numbers : (n : ℕ) → length (numbers_below n) ≡ n
 length-numbers zero = refl
 length-numbers (suc n) = let both = length-append (numbers_below n) (n ∷ []) in let rest = length-numbers n in omega arith
 
-got_number : (n s : ℕ) → s < n → slice_get (numbers_below n) s ≡ Some s
+pub got_number : (n s : ℕ) → s < n → slice_get (numbers_below n) s ≡ Some s
 got_number zero s low = absurd (omega arith)
 got_number (suc n) s low = step (got_number n s) (cases_lt s n)
   where

@@ -1,8 +1,10 @@
-//! Tasks of a circuit over shards: legal orders of them, what becomes of each, and that the order does not matter. Definitions
-//! and laws alone: nothing here runs yet.
+//! Tasks of a circuit over shards: legal orders of them, what becomes of each, that the order does not matter, and `play`, which runs
+//! them.
 #![tactic(auto)]
 
+mod inputs;
 pub mod laws;
+mod store;
 mod task;
 
 pub use task::Task;

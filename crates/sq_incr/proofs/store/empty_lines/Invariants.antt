@@ -1,0 +1,6 @@
+use Rattle.std.proofs.Common.{◌≡◌, replicate}
+use Rattle.sq_incr.specs.declared.store.Slot.TheVariants.{Open}
+use Rattle.sq_incr.proofs.store.empty_lines.Given as goal
+
+abbrev pub invariant-loop : goal.invariant-loop
+invariant-loop l = l.lines.items ≡ replicate l.counter (replicate l.shards Open)
