@@ -66,7 +66,7 @@ listed_fits z listed = let few = listed_few z listed in mass-in_range z (omega a
 listed_near : (y z : Rows) → IsListed y → IsListed z → IsNear y z
 listed_near y z a b row = apart (weight row y) (weight row z) (a.above row) (b.above row) (weights-in_range y (listed_fits y a) row) (weights-in_range z (listed_fits z b) row)
 
-cut_fits : (S : Shards (List Value)) (key : List Value → List Value) (s : ℕ) (z : Rows) → IsInRange z → IsInRange (cut S key s z)
+pub cut_fits : (S : Shards (List Value)) (key : List Value → List Value) (s : ℕ) (z : Rows) → IsInRange z → IsInRange (cut S key s z)
 cut_fits S key s z fits = in_range-weights (cut S key s z) (λ row.
     subst Fits (sym (weight-cut S row_cmp key row_cmp-total row_cmp-antisymmetric row s z)) (in_one (s == S.shard (key row)) (weight row z) (weights-in_range z fits row)))
 

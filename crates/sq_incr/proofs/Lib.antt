@@ -11,3 +11,4 @@ pub mod Fitting
 pub mod Taking
 pub mod Noting
 pub mod Summing
+pub mod Keying

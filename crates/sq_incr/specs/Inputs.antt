@@ -7,22 +7,22 @@
 --     IsThere ..                   what is asked of a source before it is read
 --     IsChange r s o               how what a source holds has changed, if it is sound over the new tables
 --     AreDone lines s              all tasks of what a source reads were played
---     side_kinds c i s             the kinds of what the node i reads from the source s
---     FindsKey key kinds columns   rows of these kinds have these columns, which are the key
-use Rattle.std.specs.Prelude.{◌≡◌, ℕ, ◌^◌, ℤ, pos, ◌<◌, ◌+ℤ◌, ◌≤ℤ◌, int_lt, Bool, true, false, ◌&&◌, if◌then◌else◌, List, [], map, length, slice_get, Option, Some, None, ⊤}
-use Rattle.std.specs.List.{list_all}
+--     HaveLeftKeys, HaveRightKeys n z     rows that the node reads have the columns of its key.      is_own n s e     an entry belongs to the shard s by its row
+--     IsInside n s                 a source is below n
+use Rattle.std.specs.Prelude.{◌≡◌, ℕ, ◌^◌, ℤ, pos, ◌<◌, ◌==◌, ◌+ℤ◌, ◌≤ℤ◌, int_lt, Bool, true, false, ◌&&◌, if◌then◌else◌, List, map, length, slice_get, Option, Some, None, ⊤}
+use Rattle.std.specs.List.{All, list_all}
 use Rattle.sq_value.specs.declared.value.Value.{Value}
 use Rattle.sq_value.specs.Order.{row_cmp}
-use Rattle.sq_expr.specs.Kinds.{AreOfKinds}
-use Rattle.sq_expr.specs.Meaning.{columns_of}
-use Rattle.sq_expr.specs.declared.expr.Kind.{Kind}
 use Rattle.sq_algebra.specs.Groups.{sum_over, z_sets}
-use Rattle.sq_algebra.specs.ZSet.{total}
-use Rattle.sq_circuit.specs.Circuits.{kinds_at, place_at}
+use Rattle.sq_algebra.specs.ZSet.{entries, total}
+use Rattle.sq_circuit.specs.Circuits.{place_at}
 use Rattle.sq_circuit.specs.Nodes.{Rows, Source, Nowhere, Outer, Inner}
 use Rattle.sq_circuit.specs.Verdicts.{source_sound}
 use Rattle.sq_circuit.specs.declared.circuit.Part.{Part}
-use Rattle.sq_shard.specs.Shards.{HasColumns}
+use Rattle.sq_circuit.specs.declared.node.Node.{Node}
+use Rattle.sq_circuit.specs.declared.node.Node.TheVariants.{Table, Linear, Join, Distinct, Aggregate, Plus, Minus, View}
+use Rattle.sq_ops.specs.Aggregates.{group_columns}
+use Rattle.sq_shard.specs.Shards.{HasColumns, shard_number}
 use Rattle.sq_zset.specs.Range.{IsInRange}
 use Rattle.sq_states.specs.declared.kept.NodeState.{NodeState}
 use Rattle.sq_incr.specs.Ready.{IsReady, change_at}
@@ -87,14 +87,37 @@ AreDone lines (Outer t) = ⊤
 AreDone lines (Inner j) = (line : List Slot) → slice_get lines j ≡ Some line → list_all is_done line ≡ true
 
 -- ---- keys
-abbrev pub side_kinds : List Part → ℕ → Source → List Kind
-side_kinds c i Nowhere = []
-side_kinds c i (Outer t) = kinds_at c i
-side_kinds c i (Inner j) = kinds_at c j
+-- each row has these columns
+abbrev pub HaveColumns : List ℕ → Rows → Type 0
+HaveColumns columns z = All (λ e. HasColumns columns e.0) (entries z)
 
-pub record FindsKeyOf (key : List Value → List Value) (columns : List ℕ) (row : List Value) : Type 0 where
-  pub there : HasColumns columns row
-  pub is : columns_of columns row ≡ key row
+-- the rows that a node reads on each side have the columns of its key
+abbrev pub HaveLeftKeys : Node → Rows → Type 0
+HaveLeftKeys (Table t) z = ⊤
+HaveLeftKeys (Linear j op) z = ⊤
+HaveLeftKeys (Join l r op) z = HaveColumns op.left z
+HaveLeftKeys (Distinct j) z = ⊤
+HaveLeftKeys (Aggregate j spec) z = HaveColumns (group_columns spec) z
+HaveLeftKeys (Plus l r) z = ⊤
+HaveLeftKeys (Minus l r) z = ⊤
+HaveLeftKeys (View j v) z = ⊤
 
-abbrev pub FindsKey : (List Value → List Value) → List Kind → List ℕ → Type 0
-FindsKey key kinds columns = (row : List Value) → AreOfKinds row kinds → FindsKeyOf key columns row
+abbrev pub HaveRightKeys : Node → Rows → Type 0
+HaveRightKeys (Table t) z = ⊤
+HaveRightKeys (Linear j op) z = ⊤
+HaveRightKeys (Join l r op) z = HaveColumns op.right z
+HaveRightKeys (Distinct j) z = ⊤
+HaveRightKeys (Aggregate j spec) z = ⊤
+HaveRightKeys (Plus l r) z = ⊤
+HaveRightKeys (Minus l r) z = ⊤
+HaveRightKeys (View j v) z = ⊤
+
+-- whether an entry belongs to the shard s, by its whole row
+abbrev pub is_own : ℕ → ℕ → List Value × ℤ → Bool
+is_own n s e = s == shard_number n e.0
+
+-- the nodes that a node reads are there
+abbrev pub IsInside : ℕ → Source → Type 0
+IsInside n Nowhere = ⊤
+IsInside n (Outer t) = ⊤
+IsInside n (Inner j) = j < n

@@ -3,6 +3,7 @@
 #![tactic(auto)]
 
 mod inputs;
+mod keys;
 pub mod laws;
 mod store;
 mod task;

@@ -1,0 +1,6 @@
+use Rattle.std.proofs.Common.{sym, subst}
+use Rattle.sq_incr.specs.Inputs.{HaveColumns, HaveRightKeys}
+use Rattle.sq_incr.proofs.keys.right_part.Goals as goal
+
+pub part_by-requires-clause-keys : goal.part_by-requires-clause-keys
+part_by-requires-clause-keys c = subst (λ cs. HaveColumns cs c.args.z) (sym c.as_slice.ensures) (subst (λ n. HaveRightKeys n c.args.z) c.in-Join.is c.requires.keys)
