@@ -92,7 +92,7 @@ module _ (c : List Part) (circuit : IsCircuit c) where
       at (inl found) = (found.0, found.2)
       at (inr past) = absurd (let high = past.0 in omega arith)
 
-  source_fits : (tables : List Rows) → IsGood c tables → (i : ℕ) → i < length c → (s : Source) → IsEarlier i s → source_sound c tables s ≡ true → IsInRange (whole_from c tables s)
+  pub source_fits : (tables : List Rows) → IsGood c tables → (i : ℕ) → i < length c → (s : Source) → IsEarlier i s → source_sound c tables s ≡ true → IsInRange (whole_from c tables s)
   source_fits tables good i long Nowhere low sound = no_rows_are_in_range
   source_fits tables good i long (Outer t) low sound = listed_fits (table_at tables t) (good.listed t)
   source_fits tables good i long (Inner j) low sound = let found = part_of i j long low in sound_in_range c tables j found.0 circuit found.1 (record { good = good; sound = sound })
@@ -188,7 +188,7 @@ module _ (c : List Part) (circuit : IsCircuit c) (n : ℕ) (above : 0 < n) (i : 
   rise_fits false old new now was = minus_fits (share_over old) (share_over new) (shares_near old new (was refl) now (shown (shards n) p.node))
 
 module _ (first : Bool) (c : List Part) (n : ℕ) (old : List Rows) (change : ℕ → Rows) (new : List Rows) (tick : IsTick first c n old change new) where
-  piece_is : (i : ℕ) (p : Part) → slice_get c i ≡ Some p → (s : ℕ) → pieces first c (shards n) old change i s
+  pub piece_is : (i : ℕ) (p : Part) → slice_get c i ≡ Some p → (s : ℕ) → pieces first c (shards n) old change i s
       ≡ minus (share p.node (shards n) s (whole_from c new (left_source p.node)) (whole_from c new (right_source p.node))) (before first (share p.node (shards n) s (before first (whole_from c old (left_source p.node))) (before first (whole_from c old (right_source p.node)))))
   piece_is i p e s =
       ap (λ h. h s) (pieces_are first c (reads_earlier c tick.circuit.parts) (shards n) old change i ∙ ap (λ o. piece_of first c (shards n) old change o (pieces first c (shards n) old change)) e)

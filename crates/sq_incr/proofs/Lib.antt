@@ -12,3 +12,6 @@ pub mod Taking
 pub mod Noting
 pub mod Summing
 pub mod Keying
+pub mod Stepping
+pub mod Carrying
+pub mod Turning

@@ -1,8 +1,8 @@
 -- What the step of a node asks: the rows that it reads, before and after, are those that its operator takes.
-use Rattle.std.proofs.Common.{◌≡◌, ℕ, ◌<◌, ◌^◌, ◌||◌, ◌&&◌, ◌≤ℤ◌, Bool, true, false, List, get_or, length, ℤ, pos, Some, None, refl, sym, ap, subst, ◌∙◌, arith}
-use Rattle.std.specs.Prelude.{Option, is_some, slice_get}
-use Rattle.std.specs.List.{All}
-use Rattle.std.proofs.lemmas.Bool.{and_parts}
+use Rattle.std.proofs.Common.{◌≡◌, ℕ, ◌<◌, ◌^◌, ◌||◌, ◌&&◌, ◌≤ℤ◌, Bool, true, false, not, cond, List, [], ◌∷◌, get_or, length, ℤ, pos, Some, None, refl, sym, ap, subst, ◌∙◌, arith}
+use Rattle.std.specs.Prelude.{Option, is_some, nat_lt, slice_get}
+use Rattle.std.specs.List.{All, AllByRecursion, list_all}
+use Rattle.std.proofs.lemmas.Bool.{and_parts, ltb-true}
 use Rattle.std.proofs.lemmas.List.Elements.{All-nil, All-weaker}
 use Rattle.std.proofs.lemmas.Option.{slice_get_within}
 use borrow.Author.Differences.{ints}
@@ -12,6 +12,7 @@ use Rattle.sq_value.specs.Order.{row_cmp}
 use Rattle.sq_value.specs.OrderLaws.{row_cmp-total}
 use Rattle.sq_expr.specs.declared.expr.Kind.{Kind}
 use Rattle.sq_expr.specs.Kinds.{AreOfKinds}
+use Rattle.sq_expr.proofs.Rows.{length_of_kinds}
 use Rattle.sq_algebra.specs.Groups.{z_sets}
 use Rattle.sq_algebra.specs.ZSet.{entries, entries-zero, minus, plus, total}
 use Rattle.sq_algebra.proofs.AbelianLemmas.{plus-minus_back}
@@ -19,7 +20,8 @@ use Rattle.sq_algebra.proofs.EachLemmas.{each-minus}
 use Rattle.sq_algebra.proofs.Weights.{total-zero}
 use Rattle.sq_zset.specs.GroupLaws.{rows_are_abelian}
 use Rattle.sq_zset.proofs.Rows.{weight-zero}
-use Rattle.sq_ops.specs.Aggregates.{SuitsSpec, first_sum_outside}
+use Rattle.sq_ops.specs.Aggregates.{SuitsSpec, call_suits, first_sum_outside, group_columns}
+use Rattle.sq_ops.specs.Wholes.{has_no_values}
 use Rattle.sq_ops.specs.Fits.{FitsRows}
 use Rattle.sq_ops.specs.declared.aggregate.AggSpec.{AggSpec}
 use Rattle.sq_ops.specs.declared.bilinear.Pairing.{Pairing}
@@ -39,6 +41,7 @@ use Rattle.sq_circuit.proofs.Owning.{all_sound, no_fault, reads_earlier}
 use Rattle.sq_states.specs.Steps.{TakesGroups, TakesRows, TakesSides}
 use Rattle.sq_states.specs.declared.kept.NodeState.{NodeState}
 use Rattle.sq_states.proofs.ShardSums.{no_sums_at_first}
+use Rattle.sq_incr.specs.Inputs.{HaveColumns, HaveLeftKeys, HaveRightKeys}
 use Rattle.sq_incr.specs.Outcomes.{IsTick}
 use Rattle.sq_incr.specs.Ready.{IsReady, change_at, old_at}
 use Rattle.sq_incr.proofs.Fitting.{part_of}
@@ -62,7 +65,7 @@ before_sums : (first : Bool) (spec : AggSpec) (z : Rows) → (first ≡ false �
 before_sums true spec z h = no_sums_at_first spec
 before_sums false spec z h = h refl
 
-is_none : {A : Type 0} (o : Option A) → is_some o ≡ false → o ≡ None
+pub is_none : {A : Type 0} (o : Option A) → is_some o ≡ false → o ≡ None
 is_none None e = refl
 is_none (Some a) e = absurd (cc e)
 
@@ -72,6 +75,26 @@ fit suits kinds z suitable of_kinds = λ e d within. record { kinds = kinds; of_
 or_right : (a b : Bool) → (a || b) ≡ false → b ≡ false
 or_right true b e = absurd (cc e)
 or_right false b e = e
+
+below_all : (width : ℕ) (cs : List ℕ) → list_all (λ c. nat_lt c width) cs ≡ true → AllByRecursion (λ c. c < width) cs
+below_all width [] h = tt
+below_all width (c ∷ cs) h = let both = and_parts (nat_lt c width) (list_all (λ c. nat_lt c width) cs) h in (ltb-true c width both.0, below_all width cs both.1)
+
+have_columns : (kinds : List Kind) (columns : List ℕ) (z : Rows) → list_all (λ c. nat_lt c (length kinds)) columns ≡ true → HasKinds kinds z → HaveColumns columns z
+have_columns kinds columns z below of_kinds = λ e d within.
+    subst (λ w. AllByRecursion (λ c. c < w) columns) (sym (length_of_kinds (get_or (entries z) e d).0 kinds (of_kinds e d within))) (below_all (length kinds) columns below)
+
+no_columns : (z : Rows) → HaveColumns [] z
+no_columns z = λ e d within. tt
+
+group_below : (spec : AggSpec) (kinds : List Kind) (z : Rows) → SuitsSpec spec kinds → HasKinds kinds z → HaveColumns (group_columns spec) z
+group_below spec kinds z suits of_kinds = at spec.global
+    (and_parts (list_all (λ c. nat_lt c (length kinds)) spec.group) (list_all (λ call. call_suits call.func call.arg kinds) spec.calls)
+    (and_parts (not spec.global || has_no_values spec.group) (list_all (λ c. nat_lt c (length kinds)) spec.group && list_all (λ call. call_suits call.func call.arg kinds) spec.calls) suits).1).0
+  where
+    at : (b : Bool) → list_all (λ c. nat_lt c (length kinds)) spec.group ≡ true → HaveColumns (cond b [] spec.group) z
+    at true own = no_columns z
+    at false own = have_columns kinds spec.group z own of_kinds
 
 module _ {c : List Part} (circuit : IsCircuit c) {states : List (List NodeState)} {totals : List ℤ} {changes : List Rows} {first : Bool} (r : IsReady c states totals changes first) where
   pub earlier : AreEarlier c
@@ -185,3 +208,29 @@ module _ {c : List Part} (circuit : IsCircuit c) {states : List (List NodeState)
 
     pub takes : Takes p.node
     takes = takes_node p.node refl
+
+    left_keys : (n : Node) → p.node ≡ n → HaveLeftKeys n (change_at r (left_source n))
+    left_keys (Table t) is = tt
+    left_keys (Linear j op) is = tt
+    left_keys (Join l k op) is = have_columns (kinds_at c l) op.left (change_at r (Inner l)) (suits (Join l k op) is).left_in_range (change_kinds i p e l (left_low (Join l k op) is) (on_left (Join l k op) is))
+    left_keys (Distinct j) is = tt
+    left_keys (Aggregate j spec) is = group_below spec (kinds_at c j) (change_at r (Inner j)) (suits (Aggregate j spec) is) (change_kinds i p e j (left_low (Aggregate j spec) is) (on_left (Aggregate j spec) is))
+    left_keys (Plus l k) is = tt
+    left_keys (Minus l k) is = tt
+    left_keys (View j v) is = tt
+
+    right_keys : (n : Node) → p.node ≡ n → HaveRightKeys n (change_at r (right_source n))
+    right_keys (Table t) is = tt
+    right_keys (Linear j op) is = tt
+    right_keys (Join l k op) is = have_columns (kinds_at c k) op.right (change_at r (Inner k)) (suits (Join l k op) is).right_in_range (change_kinds i p e k (right_low (Join l k op) is) (on_right (Join l k op) is))
+    right_keys (Distinct j) is = tt
+    right_keys (Aggregate j spec) is = tt
+    right_keys (Plus l k) is = tt
+    right_keys (Minus l k) is = tt
+    right_keys (View j v) is = tt
+
+    pub have_left : HaveLeftKeys p.node (change_at r (left_source p.node))
+    have_left = left_keys p.node refl
+
+    pub have_right : HaveRightKeys p.node (change_at r (right_source p.node))
+    have_right = right_keys p.node refl

@@ -5,3 +5,5 @@ pub mod Fits
 pub mod Ready
 pub mod Slots
 pub mod Inputs
+pub mod Runs
+pub mod Plays

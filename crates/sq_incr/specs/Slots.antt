@@ -1,11 +1,13 @@
 -- What is noted of the tasks of a tick while an order is played.
 --     is_done, is_run, is_broken slot     the task was played; it ran; a number left its range
 --     change_in slot               the change that it left, none if it did not run
+--     IsSlotOf made slot           the slot notes what a step gave
 --     piece_at r i s               the piece of the node i in the shard s
 --     IsMade r i s piece           this is that piece, in range, and takes what the node keeps to what belongs to the new tables
 --     is_readable r i              what the node i reads is sound over the new tables.     is_to_blame r i      so that its fault counts, if it has one
+--     IsTold r i s slot            the slot tells what became of the task, which was played
 --     AreNoted r front lines       a line for each node and in it a slot for each shard, which tell what became of the tasks of `front`
-use Rattle.std.specs.Prelude.{◌≡◌, ℕ, ℤ, Bool, true, false, ◌&&◌, List, length, slice_get, Option, Some, None, ⊤}
+use Rattle.std.specs.Prelude.{◌≡◌, ℕ, ℤ, Bool, true, false, ◌&&◌, List, length, slice_get, Option, Some, None, Result, Ok, Err, ⊤}
 use Rattle.sq_algebra.specs.Keyed.{cut}
 use Rattle.sq_circuit.specs.Circuits.{are_sound, has_fault, has_number_outside, table_at, whole_from}
 use Rattle.sq_circuit.specs.Nodes.{Rows, left_key, left_source, none}
@@ -18,6 +20,8 @@ use Rattle.sq_states.specs.Committing.{StaysInRange, is_aggregate}
 use Rattle.sq_states.specs.Keeps.{IsChanged, change_kind, state_kind}
 use Rattle.sq_states.specs.declared.kept.NodeState.{NodeState}
 use Rattle.sq_states.specs.declared.piece.Piece.{Piece}
+use Rattle.sq_states.specs.declared.piece.StepRefusal.{StepRefusal}
+use Rattle.sq_states.specs.declared.piece.StepRefusal.TheVariants as refusal
 use Rattle.sq_incr.specs.Orders.{is_in, task}
 use Rattle.sq_incr.specs.Ready.{IsKept, IsReady, KeepsPart}
 use Rattle.sq_incr.specs.declared.store.Slot.{Slot}
@@ -48,6 +52,12 @@ change_in Open = none
 change_in Skipped = none
 change_in Broken = none
 change_in (Ran piece) = piece.change
+
+-- what is noted of what a step gives
+abbrev pub IsSlotOf : Result Piece StepRefusal → Slot → Type 0
+IsSlotOf (Ok piece) slot = slot ≡ Ran piece
+IsSlotOf (Err (refusal.Fault fault)) slot = slot ≡ Broken
+IsSlotOf (Err refusal.Memory) slot = ⊥
 
 module _ {c : List Part} {states : List (List NodeState)} {totals : List ℤ} {changes : List Rows} {first : Bool} (r : IsReady c states totals changes first) where
   -- ---- a piece
@@ -84,6 +94,11 @@ module _ {c : List Part} {states : List (List NodeState)} {totals : List ℤ} {c
   Tells i s Skipped = is_readable i ≡ false
   Tells i s Broken = is_to_blame i ≡ true
   Tells i s (Ran piece) = HasRun i s piece
+
+  -- what is told of a task that was played
+  pub record IsTold (i s : ℕ) (slot : Slot) : Type 0 where
+    pub done : is_done slot ≡ true
+    pub tells : Tells i s slot
 
   -- ---- all tasks
   pub record IsNoted (front : List Task) (i s : ℕ) (slot : Slot) : Type 0 where

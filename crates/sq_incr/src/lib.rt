@@ -5,7 +5,9 @@
 mod inputs;
 mod keys;
 pub mod laws;
+mod run;
 mod store;
 mod task;
+mod turns;
 
 pub use task::Task;
