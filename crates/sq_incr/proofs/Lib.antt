@@ -15,3 +15,5 @@ pub mod Keying
 pub mod Stepping
 pub mod Carrying
 pub mod Turning
+pub mod Judging
+pub mod Answering

@@ -55,7 +55,7 @@ module _ {A : Type 0} (f : A → Rows) (g : ℕ → Rows) where
       let low : s < n = subst (λ m. s < m) (length-numbers n) (slice_get_within (numbers_below n) s k number) in
       same s x e ∙ ap g (same_Some s k (sym (got_number n s low) ∙ number)))
 
-fails_at : {A : Type 0} (p : A → Bool) (xs : List A) → list_all p xs ≡ false → (s : ℕ) × (x : A) × (slice_get xs s ≡ Some x) × (p x ≡ false)
+pub fails_at : {A : Type 0} (p : A → Bool) (xs : List A) → list_all p xs ≡ false → (s : ℕ) × (x : A) × (slice_get xs s ≡ Some x) × (p x ≡ false)
 fails_at {A = A} p [] e = absurd (cc e)
 fails_at {A = A} p (x ∷ xs) e = at (p x) refl e (fails_at p xs)
   where
@@ -120,16 +120,16 @@ module _ {c : List Part} (circuit : IsCircuit c) {states : List (List NodeState)
         ∙ sym (total-plus (old_at r (Inner i)) (change_at r (Inner i)))
         ∙ ap total (now_is circuit r (Inner i))
 
-    fault_is : (p : Part) → slice_get c i ≡ Some p → has_fault c r.new i ≡ (p.place && lists_too_many (whole c r.new i))
+    pub fault_is : (p : Part) → slice_get c i ≡ Some p → has_fault c r.new i ≡ (p.place && lists_too_many (whole c r.new i))
     fault_is p e = fault_at c (earlier circuit r) r.new i p e ∙ ap (λ b. (p.place && lists_too_many (whole c r.new i)) || b) (outside_none p e) ∙ or_false (p.place && lists_too_many (whole c r.new i))
 
     full_is : (p : Part) → slice_get c i ≡ Some p → (t : ℤ) → t ≡ total (old_at r (Inner i)) → (z : Rows) → z ≡ summed line → is_full (place_at c i) t z ≡ has_fault c r.new i
     full_is p e t old z is = ap₂ (λ b m. b && int_lt (pos (2 ^ 61)) m) (ap place_in e) (total_is t old z is) ∙ sym (fault_is p e)
 
-    sound_as : is_sound c r.new i ≡ not (has_fault c r.new i)
+    pub sound_as : is_sound c r.new i ≡ not (has_fault c r.new i)
     sound_as = sound_is c (earlier circuit r) r.new i ∙ ap (λ b. not (has_fault c r.new i) && b) readable ∙ and_true (not (has_fault c r.new i))
 
-    blamed_as : is_to_blame r i ≡ has_fault c r.new i
+    pub blamed_as : is_to_blame r i ≡ has_fault c r.new i
     blamed_as = ap (λ b. b && has_fault c r.new i) readable
 
   -- ---- some did not run
@@ -141,7 +141,7 @@ module _ {c : List Part} (circuit : IsCircuit c) {states : List (List NodeState)
   unsound_from s (Ran piece) done idle t = absurd (cc idle)
 
   -- ---- what they tell
-  the_part : (p : Part) × (slice_get c i ≡ Some p)
+  pub the_part : (p : Part) × (slice_get c i ≡ Some p)
   the_part = there_is c i (let low = slice_get_within lines i line at in let long = h.count in omega (arith, low, long))
 
   module _ (done : list_all is_done line ≡ true) where

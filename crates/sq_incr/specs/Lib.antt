@@ -7,3 +7,5 @@ pub mod Slots
 pub mod Inputs
 pub mod Runs
 pub mod Plays
+pub mod Ends
+pub mod Played

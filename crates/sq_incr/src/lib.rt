@@ -3,11 +3,14 @@
 #![tactic(auto)]
 
 mod inputs;
+mod judge;
 mod keys;
 pub mod laws;
+mod pieces;
 mod run;
 mod store;
 mod task;
 mod turns;
 
+pub use pieces::{Pieces, PlayRefusal};
 pub use task::Task;
