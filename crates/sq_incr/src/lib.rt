@@ -11,6 +11,8 @@ mod run;
 mod store;
 mod task;
 mod turns;
+mod whole;
 
 pub use pieces::{Pieces, PlayRefusal};
 pub use task::Task;
+pub use whole::play;
