@@ -64,5 +64,6 @@ module _ {c : List Part} (circuit : IsCircuit c) {totals : List ℤ} {n : ℕ} {
         clear = clear;
         count = b.noted.count;
         wide = b.noted.wide;
+        ran = all_run_so;
         made = λ t piece has. (b.noted.each t.node t.shard has.line (Ran piece) has.at has.is).tells.made;
       }

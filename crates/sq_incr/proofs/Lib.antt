@@ -17,3 +17,4 @@ pub mod Carrying
 pub mod Turning
 pub mod Judging
 pub mod Answering
+pub mod Committing

@@ -9,3 +9,4 @@ pub mod Runs
 pub mod Plays
 pub mod Ends
 pub mod Played
+pub mod Commits

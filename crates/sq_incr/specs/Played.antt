@@ -40,6 +40,7 @@ module _ {c : List Part} {states : List (List NodeState)} {totals : List ℤ} {c
     pub clear : verdict c r.new ≡ None
     pub count : length pieces ≡ length c
     pub wide : (i : ℕ) (line : List Slot) → slice_get pieces i ≡ Some line → length line ≡ length states
+    pub ran : AreAllRun pieces
     pub made : (t : Task) (piece : Piece) → HasPiece pieces t piece → IsMade r t.node t.shard piece
 
   pub record IsRefused (view : ℕ) : Type 0 where
