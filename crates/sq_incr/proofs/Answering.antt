@@ -1,17 +1,17 @@
 -- What `play` answers, from what all tasks tell.
-use Rattle.std.proofs.Common.{◌≡◌, ℕ, ◌<◌, ◌&&◌, Bool, true, false, not, List, get_or, length, ℤ, Some, None, refl, sym, ap, subst, ◌∙◌, arith}
+use Rattle.std.proofs.Common.{◌≡◌, ℕ, ◌<◌, true, false, not, List, get_or, length, ℤ, Some, None, refl, sym, ap, subst, ◌∙◌}
 use Rattle.std.specs.Prelude.{Option, slice_get}
 use Rattle.std.specs.List.{list_all}
 use Rattle.std.proofs.lemmas.Bool.{and_parts}
 use Rattle.std.proofs.lemmas.Option.{slice_get_within}
 use Rattle.sq_circuit.specs.Along.{least_below}
-use Rattle.sq_circuit.specs.Circuits.{has_fault, is_sound, verdict}
+use Rattle.sq_circuit.specs.Circuits.{has_fault, verdict}
 use Rattle.sq_circuit.specs.Invariant.{IsCircuit}
 use Rattle.sq_circuit.specs.declared.circuit.Part.{Part}
 use Rattle.sq_circuit.proofs.Evaluating.{sound_is}
 use Rattle.sq_circuit.proofs.Owning.{all_sound, no_fault}
 use Rattle.sq_incr.specs.Ends.{IsFirstOpen, blamed_owner}
-use Rattle.sq_incr.specs.Played.{AreAllRun, CanJudge, HasPiece, IsPlayed, IsRefused, IsShort}
+use Rattle.sq_incr.specs.Played.{AreAllRun, CanJudge, IsPlayed, IsRefused, IsShort}
 use Rattle.sq_incr.specs.Plays.{HaveShape}
 use Rattle.sq_incr.specs.Slots.{Tells, is_done, is_readable, is_run}
 use Rattle.sq_incr.specs.declared.store.Slot.{Slot}

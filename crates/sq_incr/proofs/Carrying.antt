@@ -1,5 +1,5 @@
 -- One task, from the changes of what its node reads to what it tells.
-use Rattle.std.proofs.Common.{◌≡◌, ℕ, ◌<◌, ◌≤◌, ◌+◌, ◌==◌, ◌&&◌, Bool, true, false, not, List, get_or, length, ℤ, pos, ◌≤ℤ◌, ◌^◌, Some, None, refl, sym, ap, ap₂, subst, ◌∙◌, arith}
+use Rattle.std.proofs.Common.{◌≡◌, ℕ, ◌<◌, ◌≤◌, ◌+◌, ◌==◌, ◌&&◌, Bool, true, false, List, length, ℤ, pos, ◌≤ℤ◌, Some, None, refl, sym, ap, ap₂, subst, ◌∙◌, arith}
 use Rattle.std.specs.Prelude.{Option, Result, Ok, Err, IfOk, slice_get}
 use Rattle.std.proofs.lemmas.Bool.{and_from}
 use Rattle.std.proofs.lemmas.Option.{same_Some, slice_get_within}
@@ -9,10 +9,10 @@ use Rattle.sq_algebra.specs.Keyed.{cut}
 use Rattle.sq_algebra.specs.ZSet.{total}
 use Rattle.sq_algebra.proofs.Weights.{total-zero}
 use Rattle.sq_zset.proofs.Masses.{mass-total}
-use Rattle.sq_circuit.specs.Circuits.{are_sound, node_at, node_in, place_at, place_in, table_at, whole}
+use Rattle.sq_circuit.specs.Circuits.{are_sound, node_at, node_in, place_in, whole}
 use Rattle.sq_circuit.specs.Costs.{before}
 use Rattle.sq_circuit.specs.Invariant.{IsCircuit, IsEarlier, IsInOrder, IsListed, view_count}
-use Rattle.sq_circuit.specs.Nodes.{Rows, Source, Nowhere, Outer, Inner, left_key, left_source, right_key, right_source}
+use Rattle.sq_circuit.specs.Nodes.{Rows, Source, Inner, left_key, left_source, right_key, right_source}
 use Rattle.sq_circuit.specs.Verdicts.{source_sound}
 use Rattle.sq_circuit.specs.declared.circuit.Part.{Part}
 use Rattle.sq_circuit.specs.declared.node.Node.{Node}
@@ -26,7 +26,7 @@ use Rattle.sq_states.specs.declared.piece.StepRefusal.{StepRefusal}
 use Rattle.sq_incr.specs.Inputs.{AreDone, AreSmall, HaveLeftKeys, HaveRightKeys, IsChange, IsSmall, IsThere, Rises}
 use Rattle.sq_incr.specs.Ready.{IsKept, IsReady, change_at, part_cost}
 use Rattle.sq_incr.specs.Runs.{CanRun, CanStep}
-use Rattle.sq_incr.specs.Slots.{AreNoted, IsSlotOf, IsTold}
+use Rattle.sq_incr.specs.Slots.{IsSlotOf, IsTold}
 use Rattle.sq_incr.specs.declared.store.Slot.{Slot}
 use Rattle.sq_incr.specs.declared.store.Slot.TheVariants.{Skipped}
 use Rattle.sq_incr.specs.declared.task.Task.{Task}

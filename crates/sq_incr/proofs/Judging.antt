@@ -1,10 +1,10 @@
 -- What all tasks of an order tell together: none is missing, or the first one; and which view is to blame.
-use Rattle.std.proofs.Common.{◌≡◌, ℕ, zero, suc, ◌<◌, ◌≤◌, ◌+◌, ◌&&◌, ◌||◌, Bool, true, false, not, cond, List, [], ◌∷◌, ◌++◌, length, take, ℤ, Some, None, refl, sym, ap, ap₂, subst, ◌∙◌, arith}
+use Rattle.std.proofs.Common.{◌≡◌, ℕ, zero, suc, ◌<◌, ◌+◌, ◌&&◌, ◌||◌, Bool, true, false, not, cond, List, [], ◌∷◌, ◌++◌, length, take, ℤ, Some, None, refl, sym, ap, ap₂, subst, ◌∙◌, arith}
 use Rattle.std.specs.Prelude.{Option, is_some, slice_get}
 use Rattle.std.specs.List.{Contains, list_all, list_any}
 use Rattle.std.proofs.lemmas.Bool.{and_from, and_parts}
 use Rattle.std.proofs.lemmas.Option.{same_Some, slice_get_within}
-use mathlib.Core.Logic.{◌⊎◌, inl, inr}
+use mathlib.Core.Logic.{inl, inr}
 use Rattle.sq_ops.proofs.Lists.{take_more}
 use Rattle.sq_circuit.specs.Along.{least_below, lesser}
 use Rattle.sq_circuit.specs.Circuits.{are_sound, has_fault, is_sound, owner_at, place_at, place_in, table_at, verdict, whole, lists_too_many}
@@ -13,12 +13,12 @@ use Rattle.sq_circuit.specs.Nodes.{Rows, Inner}
 use Rattle.sq_circuit.specs.Verdicts.{source_sound}
 use Rattle.sq_circuit.specs.declared.circuit.Part.{Part}
 use Rattle.sq_states.specs.declared.kept.NodeState.{NodeState}
-use Rattle.sq_incr.specs.Ends.{IsFirstOpen, IsOpenAt, blamed_owner}
+use Rattle.sq_incr.specs.Ends.{IsFirstOpen, blamed_owner}
 use Rattle.sq_incr.specs.Inputs.{IsChange}
-use Rattle.sq_incr.specs.Orders.{IsBefore, IsFirstMissing, IsInRange, IsWhole, is_in, task}
+use Rattle.sq_incr.specs.Orders.{IsBefore, IsFirstMissing, IsInRange, IsWhole}
 use Rattle.sq_incr.specs.Outcomes.{is_faulty, outcome}
 use Rattle.sq_incr.specs.Ready.{IsReady}
-use Rattle.sq_incr.specs.Slots.{AreNoted, Tells, is_broken, is_done, is_readable, is_run, is_to_blame}
+use Rattle.sq_incr.specs.Slots.{AreNoted, Tells, is_broken, is_done, is_run, is_to_blame}
 use Rattle.sq_incr.specs.declared.store.Slot.{Slot}
 use Rattle.sq_incr.specs.declared.store.Slot.TheVariants.{Open, Skipped, Broken, Ran}
 use Rattle.sq_incr.specs.declared.task.Task.{Task}

@@ -1,8 +1,8 @@
 -- What is noted of tasks while an order is played: at the beginning, after one more, and of all tasks of a node.
-use Rattle.std.proofs.Common.{◌≡◌, ℕ, zero, suc, ◌<◌, ◌≤◌, ◌==◌, ◌&&◌, ◌||◌, Bool, true, false, not, List, [], ◌∷◌, ◌++◌, get_or, length, map, replicate, take, ◌+◌, Some, None, refl, sym, ap, ap₂, subst, ◌∙◌, arith}
-use Rattle.std.specs.Prelude.{Option, slice_get, slice_set, ℤ}
-use Rattle.std.specs.List.{Contains, list_all, list_any}
-use Rattle.std.proofs.lemmas.Bool.{and_from, and_parts, cases_lt, eq-eqb, eqb-true}
+use Rattle.std.proofs.Common.{◌≡◌, ℕ, zero, suc, ◌<◌, ◌==◌, ◌&&◌, ◌||◌, Bool, true, false, List, [], ◌∷◌, ◌++◌, get_or, length, map, replicate, take, ◌+◌, Some, refl, sym, ap, ap₂, subst, ◌∙◌, arith}
+use Rattle.std.specs.Prelude.{slice_get, slice_set, ℤ}
+use Rattle.std.specs.List.{list_all, list_any}
+use Rattle.std.proofs.lemmas.Bool.{and_from, and_parts, eq-eqb, eqb-true}
 use Rattle.std.proofs.lemmas.Option.{same_Some, slice_get-get_or, slice_get_within}
 use Rattle.std.proofs.lemmas.List.{length-replicate, length-set}
 use mathlib.Core.Logic.{◌⊎◌, inl, inr}
@@ -11,11 +11,11 @@ use Rattle.sq_circuit.specs.Nodes.{Rows}
 use Rattle.sq_circuit.specs.declared.circuit.Part.{Part}
 use Rattle.sq_ops.proofs.Lists.{take_more}
 use Rattle.sq_states.specs.declared.kept.NodeState.{NodeState}
-use Rattle.sq_incr.specs.Orders.{IsInRange, MayStand, is_in, is_same, task}
+use Rattle.sq_incr.specs.Orders.{is_in, is_same, task}
 use Rattle.sq_incr.specs.Ready.{IsReady}
 use Rattle.sq_incr.specs.Slots.{AreNoted, IsNoted, Tells, is_done}
 use Rattle.sq_incr.specs.declared.store.Slot.{Slot}
-use Rattle.sq_incr.specs.declared.store.Slot.TheVariants.{Open, Skipped, Broken, Ran}
+use Rattle.sq_incr.specs.declared.store.Slot.TheVariants.{Open}
 use Rattle.sq_incr.specs.declared.task.Task.{Task}
 use Rattle.sq_incr.proofs.Sharing.{all_pass, at_each, each_below, pass_all}
 

@@ -1,6 +1,6 @@
 -- The step of a node in a shard, of which all that it reads is sound: what is taken for granted of it, and what it tells.
-use Rattle.std.proofs.Common.{◌≡◌, ℕ, ◌<◌, ◌≤◌, ◌==◌, ◌&&◌, ◌||◌, Bool, true, false, not, cond, List, [], ◌∷◌, length, ℤ, Some, None, refl, sym, ap, ap₂, subst, ◌∙◌, arith}
-use Rattle.std.specs.Prelude.{◌↔◌, ◌+◌, IfOk, Option, Result, Ok, Err, is_some, pred, suc, slice_get}
+use Rattle.std.proofs.Common.{◌≡◌, ℕ, ◌<◌, ◌≤◌, ◌==◌, ◌&&◌, ◌||◌, Bool, true, false, List, [], ◌∷◌, length, ℤ, Some, None, refl, sym, ap, ap₂, subst, ◌∙◌}
+use Rattle.std.specs.Prelude.{◌↔◌, ◌+◌, IfOk, Result, Ok, Err, is_some, pred, suc, slice_get}
 use Rattle.std.specs.List.{AllByRecursion, flat_map, list_any}
 use Rattle.std.proofs.lemmas.Bool.{and_from, and_parts}
 use Rattle.std.proofs.lemmas.List.Elements.{All-from_recursion}
@@ -30,8 +30,8 @@ use Rattle.sq_circuit.proofs.Evaluating.{fault_at}
 use Rattle.sq_shard.proofs.Parting.{empty_key}
 use Rattle.sq_shard.specs.Shards.{shards}
 use Rattle.sq_states.specs.Committing.{StaysInRange, is_aggregate}
-use Rattle.sq_states.specs.Keeps.{IsChanged, KeepsNode, change_kind, state_kind}
-use Rattle.sq_states.specs.Steps.{IsFault, IsStepped, NoFault, NodeStep, left_after, sum_outside, value_outside}
+use Rattle.sq_states.specs.Keeps.{IsChanged, KeepsNode, state_kind}
+use Rattle.sq_states.specs.Steps.{IsFault, IsStepped, NoFault, NodeStep, sum_outside, value_outside}
 use Rattle.sq_states.specs.declared.kept.NodeState.{NodeState}
 use Rattle.sq_states.specs.declared.piece.NodeFault.{NodeFault}
 use Rattle.sq_states.specs.declared.piece.NodeFault.TheVariants as fault
@@ -42,9 +42,9 @@ use Rattle.sq_states.proofs.ShardValues.{values_follow, values_in_shard}
 use Rattle.sq_states.proofs.Staying.{piece_stays}
 use Rattle.sq_incr.specs.Orders.{task}
 use Rattle.sq_incr.specs.Ready.{IsKept, IsReady, KeepsPart, change_at, cost_in, old_at, part_cost}
-use Rattle.sq_incr.specs.Slots.{HasRun, IsMade, IsSlotOf, IsTold, part_outside, piece_at}
+use Rattle.sq_incr.specs.Slots.{IsMade, IsSlotOf, IsTold, part_outside, piece_at}
 use Rattle.sq_incr.specs.declared.store.Slot.{Slot}
-use Rattle.sq_incr.specs.declared.store.Slot.TheVariants.{Ran, Broken}
+use Rattle.sq_incr.specs.declared.store.Slot.TheVariants.{Broken}
 use Rattle.sq_incr.proofs.Fitting.{piece_is, source_fits, unfit_is_faulty}
 use Rattle.sq_incr.proofs.Outside.{numbers_over_shards}
 use Rattle.sq_incr.proofs.Sharing.{at_shard}

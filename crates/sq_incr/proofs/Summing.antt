@@ -1,34 +1,33 @@
 -- What the tasks of a node tell together: its change, whether it is sound over the new tables, and whether it is to blame.
-use Rattle.std.proofs.Common.{◌≡◌, ℕ, zero, suc, ◌<◌, ◌^◌, ◌&&◌, ◌||◌, Bool, true, false, not, cond, List, [], ◌∷◌, ◌++◌, length, map, ℤ, pos, ◌+ℤ◌, ◌≤ℤ◌, Some, None, refl, sym, ap, ap₂, subst, ◌∙◌, arith}
+use Rattle.std.proofs.Common.{◌≡◌, ℕ, suc, ◌<◌, ◌^◌, ◌&&◌, ◌||◌, Bool, true, false, not, cond, List, [], ◌∷◌, length, map, ℤ, pos, ◌+ℤ◌, Some, None, refl, sym, ap, ap₂, subst, ◌∙◌, arith}
 use Rattle.std.specs.Prelude.{Option, int_lt, slice_get}
-use Rattle.std.specs.List.{list_all, list_any}
+use Rattle.std.specs.List.{list_all}
 use Rattle.std.proofs.lemmas.Bool.{and_parts}
 use Rattle.std.proofs.lemmas.Option.{same_Some, slice_get_within}
 use Rattle.sq_value.specs.Order.{row_cmp}
 use Rattle.sq_algebra.specs.Groups.{sum_over, z_sets}
-use Rattle.sq_algebra.specs.Keyed.{cut, numbers_below, over_shards}
-use Rattle.sq_algebra.specs.ZSet.{minus, plus, total}
+use Rattle.sq_algebra.specs.Keyed.{cut, numbers_below}
+use Rattle.sq_algebra.specs.ZSet.{minus, total}
 use Rattle.sq_algebra.proofs.AbelianLemmas.{plus-minus_left, sum_over-map}
 use Rattle.sq_algebra.proofs.AnyLemmas.{none_of_all, or_false}
 use Rattle.std.proofs.lemmas.List.Elements.{recursion_from_All}
 use Rattle.sq_zset.proofs.Rows.{total-plus}
 use Rattle.sq_zset.specs.GroupLaws.{rows_are_abelian}
 use Rattle.sq_zset.specs.Range.{IsInRange}
-use Rattle.sq_circuit.specs.Circuits.{are_sound, has_fault, has_number_outside, is_sound, lists_too_many, place_at, place_in, table_at, whole, whole_from}
+use Rattle.sq_circuit.specs.Circuits.{has_fault, has_number_outside, is_sound, lists_too_many, place_at, place_in, table_at, whole, whole_from}
 use Rattle.sq_circuit.specs.Costs.{before}
 use Rattle.sq_circuit.specs.Invariant.{IsCircuit}
 use Rattle.sq_circuit.specs.Nodes.{Rows, Source, Nowhere, Outer, Inner, none, left_key, left_source}
-use Rattle.sq_circuit.specs.Verdicts.{source_sound}
 use Rattle.sq_circuit.specs.declared.circuit.Part.{Part}
 use Rattle.sq_circuit.proofs.Composing.{pieces_add_up}
-use Rattle.sq_circuit.proofs.Evaluating.{fault_at, sound_at, sound_is}
+use Rattle.sq_circuit.proofs.Evaluating.{fault_at, sound_is}
 use Rattle.sq_shard.proofs.Parting.{numbers_are}
 use Rattle.sq_shard.specs.Shards.{shards}
 use Rattle.sq_states.specs.declared.kept.NodeState.{NodeState}
 use Rattle.sq_states.specs.declared.piece.Piece.{Piece}
 use Rattle.sq_incr.specs.Inputs.{IsChange, IsSum, Rises, fitting, is_full, source_of, summed}
 use Rattle.sq_incr.specs.Ready.{IsReady, change_at, old_at}
-use Rattle.sq_incr.specs.Slots.{AreNoted, HasRun, IsNoted, Tells, change_in, is_broken, is_done, is_readable, is_run, is_to_blame, part_outside, piece_at}
+use Rattle.sq_incr.specs.Slots.{AreNoted, HasRun, Tells, change_in, is_done, is_readable, is_run, is_to_blame, part_outside, piece_at}
 use Rattle.sq_incr.specs.declared.inputs.Input.{Input}
 use Rattle.sq_incr.specs.declared.store.Slot.{Slot}
 use Rattle.sq_incr.specs.declared.store.Slot.TheVariants.{Open, Skipped, Broken, Ran}
@@ -39,7 +38,7 @@ use Rattle.sq_incr.proofs.Ordering.{got_number, length-numbers}
 use Rattle.sq_incr.proofs.Outside.{numbers_over_shards}
 use Rattle.sq_incr.proofs.Sharing.{each_shard}
 use Rattle.sq_incr.proofs.Testing.{and_true}
-use Rattle.sq_incr.proofs.Taking.{earlier, now_is, tick, was_sound}
+use Rattle.sq_incr.proofs.Taking.{earlier, now_is, was_sound}
 
 -- ---- lists
 -- a list of members is one of numbers, if it is place by place

@@ -3,10 +3,10 @@ use Rattle.std.proofs.Common.{◌≡◌, ℕ, ◌<◌, ◌^◌, ◌||◌, ◌&&�
 use Rattle.std.specs.Prelude.{Option, is_some, nat_lt, slice_get}
 use Rattle.std.specs.List.{All, AllByRecursion, list_all}
 use Rattle.std.proofs.lemmas.Bool.{and_parts, ltb-true}
-use Rattle.std.proofs.lemmas.List.Elements.{All-nil, All-weaker}
+use Rattle.std.proofs.lemmas.List.Elements.{All-nil}
 use Rattle.std.proofs.lemmas.Option.{slice_get_within}
 use borrow.Author.Differences.{ints}
-use mathlib.Core.Logic.{◌⊎◌, inl, inr}
+use mathlib.Core.Logic.{inl, inr}
 use Rattle.sq_value.specs.declared.value.Value.{Value}
 use Rattle.sq_value.specs.Order.{row_cmp}
 use Rattle.sq_value.specs.OrderLaws.{row_cmp-total}
@@ -14,7 +14,7 @@ use Rattle.sq_expr.specs.declared.expr.Kind.{Kind}
 use Rattle.sq_expr.specs.Kinds.{AreOfKinds}
 use Rattle.sq_expr.proofs.Rows.{length_of_kinds}
 use Rattle.sq_algebra.specs.Groups.{z_sets}
-use Rattle.sq_algebra.specs.ZSet.{entries, entries-zero, minus, plus, total}
+use Rattle.sq_algebra.specs.ZSet.{entries, entries-zero, plus}
 use Rattle.sq_algebra.proofs.AbelianLemmas.{plus-minus_back}
 use Rattle.sq_algebra.proofs.EachLemmas.{each-minus}
 use Rattle.sq_algebra.proofs.Weights.{total-zero}
@@ -27,9 +27,9 @@ use Rattle.sq_ops.specs.declared.aggregate.AggSpec.{AggSpec}
 use Rattle.sq_ops.specs.declared.bilinear.Pairing.{Pairing}
 use Rattle.sq_circuit.specs.Circuits.{are_sound, has_number_outside, kinds_at, kinds_in, lists_too_many, table_at, whole, whole_from}
 use Rattle.sq_circuit.specs.Costs.{before}
-use Rattle.sq_circuit.specs.Invariant.{AreEarlier, HasKinds, IsCircuit, IsEarlier, IsGood, IsListed, IsSoundAt, NeedsListed, TakesKinds}
+use Rattle.sq_circuit.specs.Invariant.{AreEarlier, HasKinds, IsCircuit, IsEarlier, IsListed, IsSoundAt, NeedsListed, TakesKinds}
 use Rattle.sq_circuit.specs.LinearOps.{SuitsOp}
-use Rattle.sq_circuit.specs.Nodes.{Rows, Source, Nowhere, Outer, Inner, left_source, none, right_source}
+use Rattle.sq_circuit.specs.Nodes.{Rows, Source, Inner, left_source, none, right_source}
 use Rattle.sq_circuit.specs.Verdicts.{source_sound}
 use Rattle.sq_circuit.specs.declared.circuit.Part.{Part}
 use Rattle.sq_circuit.specs.declared.node.LinearOp.{LinearOp}

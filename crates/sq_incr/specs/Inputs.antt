@@ -6,10 +6,11 @@
 --     fitting place total o        the change that is left of one, if the place does not hold too many rows after it
 --     IsThere ..                   what is asked of a source before it is read
 --     IsChange r s o               how what a source holds has changed, if it is sound over the new tables
+--     TellsChange .. result        a result says that
 --     AreDone lines s              all tasks of what a source reads were played
 --     HaveLeftKeys, HaveRightKeys n z     rows that the node reads have the columns of its key.      is_own n s e     an entry belongs to the shard s by its row
 --     IsInside n s                 a source is below n
-use Rattle.std.specs.Prelude.{◌≡◌, ℕ, ◌^◌, ℤ, pos, ◌<◌, ◌==◌, ◌+ℤ◌, ◌≤ℤ◌, int_lt, Bool, true, false, ◌&&◌, if◌then◌else◌, List, map, length, slice_get, Option, Some, None, ⊤}
+use Rattle.std.specs.Prelude.{◌≡◌, ℕ, ◌^◌, ℤ, pos, ◌<◌, ◌==◌, ◌+ℤ◌, ◌≤ℤ◌, int_lt, Bool, true, false, ◌&&◌, if◌then◌else◌, List, map, length, slice_get, Option, Some, None, Result, IfOk, ⊤}
 use Rattle.std.specs.List.{All, list_all}
 use Rattle.sq_value.specs.declared.value.Value.{Value}
 use Rattle.sq_value.specs.Order.{row_cmp}
@@ -26,10 +27,11 @@ use Rattle.sq_shard.specs.Shards.{HasColumns, shard_number}
 use Rattle.sq_zset.specs.Range.{IsInRange}
 use Rattle.sq_states.specs.declared.kept.NodeState.{NodeState}
 use Rattle.sq_incr.specs.Ready.{IsReady, change_at}
-use Rattle.sq_incr.specs.Slots.{change_in, is_done, is_run}
+use Rattle.sq_incr.specs.Slots.{AreNoted, change_in, is_done, is_run}
 use Rattle.sq_incr.specs.declared.inputs.Input.{Input}
 use Rattle.sq_incr.specs.declared.inputs.Input.TheVariants as input
 use Rattle.sq_incr.specs.declared.store.Slot.{Slot}
+use Rattle.sq_incr.specs.declared.task.Task.{Task}
 
 abbrev pub source_of : Input → Source
 source_of input.Nothing = Nowhere
@@ -121,3 +123,8 @@ abbrev pub IsInside : ℕ → Source → Type 0
 IsInside n Nowhere = ⊤
 IsInside n (Outer t) = ⊤
 IsInside n (Inner j) = j < n
+
+-- the result is how what a source holds has changed, for each tick that is ready with these changes
+abbrev pub TellsChange : {E : Type 0} → List Part → List ℤ → List Rows → List (List Slot) → Source → Result (Option Rows) E → Type 0
+TellsChange c totals changes lines s result =
+    (states : List (List NodeState)) (first : Bool) (r : IsReady c states totals changes first) (front : List Task) → AreNoted r front lines → AreDone lines s → IfOk result (IsChange r s)

@@ -4,7 +4,7 @@
 --     IsShort, IsRefused       the order is legal, but a task is missing; it is whole, but a view is to blame
 --     Answers r order result   what each answer of `play` says
 --     CanJudge ..              what is taken for granted when all tasks of an order were played
-use Rattle.std.specs.Prelude.{◌≡◌, ℕ, ◌<◌, ℤ, Bool, true, List, length, slice_get, Option, Some, None, Result, Ok, Err, ⊤}
+use Rattle.std.specs.Prelude.{◌≡◌, ℕ, ℤ, Bool, true, List, length, slice_get, Some, None, Result, Ok, Err, ⊤}
 use Rattle.sq_circuit.specs.Circuits.{verdict}
 use Rattle.sq_circuit.specs.Nodes.{Rows}
 use Rattle.sq_circuit.specs.declared.circuit.Part.{Part}

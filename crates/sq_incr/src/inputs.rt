@@ -1,16 +1,10 @@
 //! How what a node reads has changed, from what the tasks of other nodes left.
-ghost use Rattle.std.specs.Prelude.{◌≡◌, ◌<◌, ℤ, length, map, slice_get, true, Bool, List, Some, None, IfOk};
+ghost use Rattle.std.specs.Prelude.{◌≡◌, ◌<◌, length, map, slice_get, true, List, Some, IfOk};
 ghost use Rattle.std.specs.List.{list_all};
-ghost use Rattle.sq_circuit.specs.Circuits.{place_at};
 ghost use Rattle.sq_circuit.specs.Nodes.{Rows, Inner, left_source, right_source};
-ghost use Rattle.sq_states.specs.declared.kept.NodeState.{NodeState as Kept};
-ghost use Rattle.sq_incr.specs.Inputs.{AreDone, AreSmall, IsChange, IsSmall, IsSum, IsThere, fitting, is_full, source_of};
-ghost use Rattle.sq_incr.specs.Orders.{is_in};
-ghost use Rattle.sq_incr.specs.Ready.{IsReady};
-ghost use Rattle.sq_incr.specs.Slots.{AreNoted, change_in, is_run};
+ghost use Rattle.sq_incr.specs.Inputs.{AreSmall, IsSmall, IsSum, IsThere, TellsChange, fitting, is_full, source_of};
+ghost use Rattle.sq_incr.specs.Slots.{change_in, is_run};
 ghost use Rattle.sq_incr.specs.declared.store.Slot.{Slot as Told};
-ghost use Rattle.sq_incr.specs.declared.task.Task.{Task as Turn};
-ghost use Rattle.sq_zset.specs.Range.{IsInRange};
 
 use crate::store::{Line, Slot};
 use sq_circuit::{Circuit, Node};
@@ -134,8 +128,7 @@ pub fn change_of(
     requires totals { node < length totals.now }
     requires small { AreSmall circuit.now totals.now }
     requires wide { (line : List Told) → slice_get lines.now node ≡ Some line → length line ≡ shards }
-    ensures { (states : List (List Kept)) (changes : List Rows) (first : Bool) (r : IsReady circuit.now states totals.now changes first) (front : List Turn) → AreNoted r front lines.now
-        → AreDone lines.now (Inner node) → IfOk result (IsChange r (Inner node)) }
+    ensures { (changes : List Rows) → TellsChange circuit.now totals.now changes lines.now (Inner node) result }
 {
     let sum = sum_of(alloc, &lines[node as usize], shards)?;
     Ok(unless_full(circuit.place(node), total_at(totals, node), sum))
@@ -177,8 +170,7 @@ pub fn source_change(
 ) -> Result<Option<ZSet>, NoMemory>
     requires input { IsThere circuit.now totals.now changes.now lines.now shards (source_of input) }
     requires small { AreSmall circuit.now totals.now }
-    ensures { (states : List (List Kept)) (first : Bool) (r : IsReady circuit.now states totals.now changes.now first) (front : List Turn) → AreNoted r front lines.now
-        → AreDone lines.now (source_of input) → IfOk result (IsChange r (source_of input)) }
+    ensures { TellsChange circuit.now totals.now changes.now lines.now (source_of input) result }
 {
     match input {
         Input::Nothing => Ok(Some(ZSet::zero(alloc))),

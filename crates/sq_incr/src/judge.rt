@@ -1,14 +1,11 @@
 //! What all tasks of an order tell together: whether one is missing, and which view is to blame.
-ghost use Rattle.std.specs.Prelude.{◌≡◌, ◌<◌, ℕ, Bool, cond, true, length, slice_get, List, Some, None, IfOk};
+ghost use Rattle.std.specs.Prelude.{◌≡◌, ◌<◌, ℕ, cond, true, length, slice_get, List, Some, None};
 ghost use Rattle.std.specs.List.{list_all};
-ghost use Rattle.sq_circuit.specs.Along.{least_below, lesser as lesser_lem};
-ghost use Rattle.sq_circuit.specs.Nodes.{Inner, Rows};
-ghost use Rattle.sq_states.specs.declared.kept.NodeState.{NodeState as Kept};
-ghost use Rattle.sq_incr.specs.Ends.{IsFirstOpen, IsOpenAt, blamed_owner};
-ghost use Rattle.sq_incr.specs.Inputs.{AreDone, AreSmall};
+ghost use Rattle.sq_circuit.specs.Along.{lesser as lesser_lem};
+ghost use Rattle.sq_incr.specs.Ends.{IsFirstOpen, IsOpenAt, TellsBlame, TellsView};
+ghost use Rattle.sq_incr.specs.Inputs.{AreSmall};
 ghost use Rattle.sq_incr.specs.Plays.{HaveShape};
-ghost use Rattle.sq_incr.specs.Ready.{IsReady};
-ghost use Rattle.sq_incr.specs.Slots.{AreNoted, is_done, is_to_blame as is_to_blame_lem};
+ghost use Rattle.sq_incr.specs.Slots.{is_done};
 ghost use Rattle.sq_incr.specs.declared.store.Slot.{Slot as Told};
 ghost use Rattle.sq_incr.specs.declared.task.Task.{Task as Turn};
 
@@ -84,8 +81,7 @@ fn is_to_blame(
     requires totals { node < length totals.now }
     requires small { AreSmall circuit.now totals.now }
     requires wide { (line : List Told) → slice_get lines.now node ≡ Some line → length line ≡ shards }
-    ensures { (states : List (List Kept)) (changes : List Rows) (first : Bool) (r : IsReady circuit.now states totals.now changes first) (front : List Turn) → AreNoted r front lines.now
-        → AreDone lines.now (Inner node) → IfOk result (λ bad. bad ≡ is_to_blame_lem r node) }
+    ensures { TellsBlame circuit.now totals.now lines.now node result }
 {
     let place = circuit.place(node);
     let line = &lines[node as usize];
@@ -110,8 +106,7 @@ pub fn least_faulty(
     requires totals { length totals.now ≡ length circuit.now }
     requires small { AreSmall circuit.now totals.now }
     requires shape { HaveShape (length circuit.now) shards lines.now }
-    ensures { (states : List (List Kept)) (changes : List Rows) (first : Bool) (r : IsReady circuit.now states totals.now changes first) (front : List Turn) → AreNoted r front lines.now
-        → list_all (list_all is_done) lines.now ≡ true → IfOk result (λ view. view ≡ least_below (blamed_owner r) (length circuit.now)) }
+    ensures { TellsView circuit.now totals.now lines.now result }
 {
     let mut least = None;
     for node in 0..circuit.len() {

@@ -1,5 +1,5 @@
 //! The parts of what a node reads, by its keys.
-ghost use Rattle.std.specs.Prelude.{◌≡◌, ◌<◌, ◌≤◌, ◌^◌, ◌++◌, ◌∷◌, [], filter, length, unsigned_abs, IfOk, OnOk};
+ghost use Rattle.std.specs.Prelude.{◌≡◌, ◌<◌, ◌≤◌, ◌^◌, ◌++◌, ◌∷◌, [], filter, unsigned_abs, IfOk, OnOk};
 ghost use Rattle.sq_algebra.specs.Keyed.{cut};
 ghost use Rattle.sq_algebra.specs.ZSet.{entries};
 ghost use Rattle.sq_circuit.specs.Nodes.{left_key, right_key};

@@ -1,5 +1,5 @@
 //! What holds of tasks and their orders, each as the contract of a function that does nothing.
-ghost use Rattle.std.specs.Prelude.{◌≡◌, ◌+◌, ◌*◌, ◌<◌, ℕ, ℤ, Bool, false, List, [], ◌∷◌, ◌++◌, length, slice_get, take, Some, None};
+ghost use Rattle.std.specs.Prelude.{◌≡◌, ◌+◌, ◌*◌, ◌<◌, ℕ, Bool, List, [], ◌∷◌, ◌++◌, length, slice_get, take, Some, None};
 ghost use Rattle.sq_circuit.specs.Circuits.{verdict};
 ghost use Rattle.sq_circuit.specs.Invariant.{AreEarlier, IsCircuit};
 ghost use Rattle.sq_circuit.specs.Nodes.{Rows};
@@ -8,11 +8,7 @@ ghost use Rattle.sq_incr.specs.Fits.{PartsFit, PiecesFit, UnfitIsFaulty};
 ghost use Rattle.sq_incr.specs.Orders.{FirstIllegal, IsLegal, IsToldBy, IsWhole, MayStand, TellsMissing, all_tasks, task};
 ghost use Rattle.sq_incr.specs.Outcomes.{AllRan, AreLeft, AreTested, IsTick, Skipped, TotalsRise, least_faulty, outcome, step};
 ghost use Rattle.sq_incr.specs.Play.{AnyOrderGives, HasPlayed, IsPlayable, OneMoreKeeps, StepOf, played};
-ghost use Rattle.sq_incr.specs.Commits.{AreCommitted};
-ghost use Rattle.sq_incr.specs.Played.{IsPlayed};
-ghost use Rattle.sq_incr.specs.Ready.{IsReady, Keeps};
-ghost use Rattle.sq_incr.specs.declared.store.Slot.{Slot as Told};
-ghost use Rattle.sq_states.specs.declared.kept.NodeState.{NodeState as Kept};
+ghost use Rattle.sq_incr.specs.Commits.{CommitsKeepNew};
 ghost use Rattle.sq_incr.specs.declared.task.Task.{Task as Turn};
 
 use crate::Task;
@@ -78,8 +74,7 @@ pub fn pieces_of_good_changes_fit()
 /// Once all pieces that `play` answers were committed, each in its shard, and each total was raised by those of the pieces of its
 /// node, the states keep what belongs to the new tables, and the totals are theirs.
 pub fn commits_keep_the_new_tables()
-    ensures { (c : List Known) (states : List (List Kept)) (totals : List ℤ) (changes : List Rows) (first : Bool) → IsCircuit c → (r : IsReady c states totals changes first) (order : List Turn) (pieces : List (List Told)) → IsPlayed r order pieces
-        → (now : List (List Kept)) (sums : List ℤ) → AreCommitted r pieces now sums → Keeps false c r.new now sums }
+    ensures { (c : List Known) → IsCircuit c → CommitsKeepNew c }
 {}
 
 fn is_send_and_sync<T: Send + Sync>() {}

@@ -1,7 +1,6 @@
 //! Tasks played one after the other.
-ghost use Rattle.std.specs.Prelude.{◌≡◌, ◌<◌, ◌≤◌, ◌^◌, ◌+◌, length, replicate, slice_get, slice_set, get_or, [], List, Some, None, Ok, IfOk};
+ghost use Rattle.std.specs.Prelude.{◌≡◌, ◌<◌, ◌≤◌, ◌^◌, ◌+◌, length, replicate, slice_get, List, Some, None, Ok, IfOk};
 ghost use Rattle.std.specs.List.{sum_by};
-ghost use Rattle.sq_circuit.specs.Nodes.{Rows};
 ghost use Rattle.sq_incr.specs.Inputs.{source_of};
 ghost use Rattle.sq_incr.specs.Orders.{may_stand as may_stand_lem};
 ghost use Rattle.sq_incr.specs.Plays.{ArePlayed, CanTurn, HaveShape, IsTurn, IsWithin, Stops, source_played, written};

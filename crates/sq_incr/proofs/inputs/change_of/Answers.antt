@@ -1,4 +1,4 @@
-use Rattle.std.proofs.Common.{rules, ◌≡◌, sym, subst, ◌∙◌, to_z-of_z, ap, SFits}
+use Rattle.std.proofs.Common.{rules, sym, subst, ◌∙◌, to_z-of_z, ap, SFits}
 use Rattle.std.specs.Int.{w128}
 use Rattle.sq_incr.specs.Inputs.{IsSmall, fitting}
 use Rattle.sq_incr.proofs.Noting.{got_at}
@@ -11,7 +11,7 @@ unless_full-requires c place =
     subst IsSmall (sym (to_z-of_z fits)) (c.requires.small c.args.node c.total_at.result c.total_at.ensures (sym c.place.ensures.place ∙ place))
 
 pub returns : goal.returns
-returns c states changes first r front noted done =
+returns c changes states first r front noted done =
     let fits : SFits w128 c.total_at.result = search rules in
     change_answered c.place.ensures.sound r front c.args.lines.now noted c.args.node c.index-lines-node.result
     (got_at c.args.lines.now c.args.node c.index-lines-node.result c.requires.lines c.index-lines-node.is) done

@@ -1,6 +1,6 @@
-use Rattle.std.proofs.Common.{◌≡◌, sym, subst, ◌∙◌, ap}
-use Rattle.std.specs.Prelude.{Ok, IfOk}
-use Rattle.sq_circuit.specs.Nodes.{Nowhere, Outer, Inner, none}
+use Rattle.std.proofs.Common.{sym, subst, ◌∙◌, ap}
+use Rattle.std.specs.Prelude.{IfOk}
+use Rattle.sq_circuit.specs.Nodes.{none}
 use Rattle.sq_incr.specs.Inputs.{AreDone, IsChange, IsThere, Rises, source_of}
 use Rattle.sq_incr.proofs.Noting.{there_is_same}
 use Rattle.sq_incr.proofs.Summing.{nothing_rises, table_rises}
@@ -16,4 +16,4 @@ returns-in_ok-z-in-Table c states first r front noted done =
 
 pub returns-in-Node : goal.returns-in-Node
 returns-in-Node c states first r front noted done =
-    subst (λ s. IfOk c.change_of.result (IsChange r s)) (sym (ap source_of c.in-Node.is)) (c.change_of.ensures states c.args.changes.now first r front noted (subst (AreDone c.args.lines.now) (ap source_of c.in-Node.is) done))
+    subst (λ s. IfOk c.change_of.result (IsChange r s)) (sym (ap source_of c.in-Node.is)) (c.change_of.ensures c.args.changes.now states first r front noted (subst (AreDone c.args.lines.now) (ap source_of c.in-Node.is) done))

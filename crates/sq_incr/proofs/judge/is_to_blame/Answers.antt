@@ -1,4 +1,4 @@
-use Rattle.std.proofs.Common.{◌≡◌, ◌∙◌, sym, ap}
+use Rattle.std.proofs.Common.{◌∙◌, sym}
 use Rattle.sq_incr.proofs.Judging.{idle_blame, no_place_blame, run_blame}
 use Rattle.sq_incr.proofs.Noting.{got_at}
 use Rattle.sq_incr.proofs.judge.is_to_blame.Goals as goal
@@ -17,4 +17,4 @@ returns-then-not-place c states changes first r front noted done =
 pub returns : goal.returns
 returns c states changes first r front noted done =
     run_blame c.place-place.ensures.sound r front c.args.lines.now noted c.args.node c.index-lines-node.result (got_at c.args.lines.now c.args.node c.index-lines-node.result c.requires.lines c.index-lines-node.is)
-    (sym c.are_run.ensures ∙ c.if-not-are_run.false) c.in_ok-change.change (c.in_ok-change.ensures states changes first r front noted done) c.is_none.result c.is_none.ensures
+    (sym c.are_run.ensures ∙ c.if-not-are_run.false) c.in_ok-change.change (c.in_ok-change.ensures changes states first r front noted done) c.is_none.result c.is_none.ensures

@@ -1,4 +1,4 @@
-use Rattle.std.proofs.Common.{◌≡◌, ◌∙◌, sym, subst, ap, length, arith}
+use Rattle.std.proofs.Common.{◌≡◌, subst, length, arith}
 use Rattle.std.specs.List.{list_all}
 use Rattle.sq_circuit.specs.Along.{least_below}
 use Rattle.sq_incr.specs.Ends.{blamed_owner}

@@ -1,4 +1,4 @@
-use Rattle.std.proofs.Common.{◌≡◌, ℕ, suc, subst, arith}
+use Rattle.std.proofs.Common.{◌≡◌, suc, subst, arith}
 use Rattle.std.specs.Prelude.{pred, IfOk}
 use Rattle.sq_incr.proofs.Keying.{own_ready, own_sums}
 use Rattle.sq_incr.proofs.keys.own_part.Goals as goal

@@ -1,4 +1,3 @@
-use Rattle.std.proofs.Common.{◌≡◌, ◌∙◌, sym, subst, ap, rules}
 use Rattle.sq_incr.proofs.Carrying.{begins, if_weaker, left_have, node_there, right_have, spends, tells_all}
 use Rattle.sq_incr.proofs.Noting.{got_at}
 use Rattle.sq_incr.proofs.run.run_step.Goals as goal

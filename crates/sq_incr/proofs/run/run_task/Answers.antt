@@ -1,4 +1,3 @@
-use Rattle.std.proofs.Common.{◌≡◌, ◌∙◌, sym, subst, ap, rules}
 use Rattle.sq_incr.specs.Inputs.{source_of}
 use Rattle.sq_incr.proofs.Carrying.{all_small, can_step, left_played, left_skips, left_there, right_played, right_skips, right_there}
 use Rattle.sq_incr.proofs.run.run_task.Goals as goal

@@ -1,4 +1,4 @@
-use Rattle.std.proofs.Common.{rules, ◌≡◌, ◌<◌, true, false, length, sym, ◌∙◌}
+use Rattle.std.proofs.Common.{rules, ◌<◌, length, sym, ◌∙◌}
 use Rattle.sq_incr.specs.Inputs.{source_of}
 use Rattle.sq_incr.proofs.Noting.{got_at}
 use Rattle.sq_incr.proofs.Turning.{done_before, left_open, right_tells}

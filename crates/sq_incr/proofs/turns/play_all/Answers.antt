@@ -1,4 +1,4 @@
-use Rattle.std.proofs.Common.{◌≡◌, ◌∙◌, refl, sym, subst}
+use Rattle.std.proofs.Common.{◌∙◌, refl, subst}
 use Rattle.sq_incr.specs.Plays.{IsTurn}
 use Rattle.sq_incr.proofs.Turning.{all_legal_so, all_played, far_costs, goes_on, spent_within, starts, stops_here, turn_at}
 use Rattle.sq_incr.proofs.turns.play_all.Goals as goal

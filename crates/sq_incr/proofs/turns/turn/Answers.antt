@@ -1,4 +1,4 @@
-use Rattle.std.proofs.Common.{◌≡◌, ◌∙◌, sym, subst}
+use Rattle.std.proofs.Common.{◌∙◌, sym, subst}
 use Rattle.sq_incr.specs.Plays.{ArePlayed}
 use Rattle.sq_incr.proofs.Turning.{can_run, node_within, played_of, shard_within, turn_refused, turn_taken}
 use Rattle.sq_incr.proofs.turns.turn.Goals as goal

@@ -1,4 +1,4 @@
-use Rattle.std.proofs.Common.{◌≡◌, ◌∙◌, subst, sym, true}
+use Rattle.std.proofs.Common.{◌≡◌, subst, sym, true}
 use Rattle.std.specs.List.{list_all}
 use Rattle.sq_incr.specs.Slots.{AreNoted, is_done}
 use Rattle.sq_incr.proofs.Answering.{all_run_so, is_played, is_refused}

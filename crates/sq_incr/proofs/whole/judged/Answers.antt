@@ -1,4 +1,4 @@
-use Rattle.std.proofs.Common.{◌≡◌, ◌∙◌, subst}
+use Rattle.std.proofs.Common.{subst}
 use Rattle.sq_incr.specs.Ends.{IsFirstOpen}
 use Rattle.sq_incr.proofs.Answering.{is_short}
 use Rattle.sq_incr.proofs.whole.judged.Goals as goal
