@@ -18,3 +18,4 @@ pub mod Turning
 pub mod Judging
 pub mod Answering
 pub mod Committing
+pub mod Beginning

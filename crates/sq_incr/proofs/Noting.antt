@@ -26,7 +26,7 @@ same_truth false false to from = refl
 
 -- ---- lists
 module _ {A : Type 0} where
-  got_same : (n : ℕ) (x y : A) (i : ℕ) → slice_get (replicate n x) i ≡ Some y → y ≡ x
+  pub got_same : (n : ℕ) (x y : A) (i : ℕ) → slice_get (replicate n x) i ≡ Some y → y ≡ x
   got_same zero x y i e = absurd (cc e)
   got_same (suc n) x y zero e = sym (same_Some x y e)
   got_same (suc n) x y (suc i) e = got_same n x y i e

@@ -4,8 +4,9 @@
 --     read_over start c tables s   what a source holds over some tables; nothing at the start
 --     Keeps start c tables states totals      the states keep what belongs to these tables, each the part of its shard, and the totals are theirs
 --     IsReady c states totals changes first   the states keep what belongs to some old tables without a fault, which the changes take to good ones
+--     StartsReady c, StaysReady c  a start is ready, and so is what is kept of tables without a fault
 --     part_cost r t                what the task t costs, in steps: the cost of its node over the parts of its shard
-use Rattle.std.specs.Prelude.{◌≡◌, ℕ, ◌<◌, ◌≤◌, ◌==◌, ◌&&◌, Bool, false, List, length, slice_get, ℤ, Option, Some, None}
+use Rattle.std.specs.Prelude.{◌≡◌, ℕ, ◌<◌, ◌≤◌, ◌==◌, ◌&&◌, Bool, true, false, List, length, replicate, slice_get, ℤ, pos, Option, Some, None}
 use Rattle.sq_algebra.specs.Keyed.{cut}
 use Rattle.sq_algebra.specs.ZSet.{total}
 use Rattle.sq_circuit.specs.Circuits.{table_at, verdict, whole, whole_from}
@@ -16,6 +17,7 @@ use Rattle.sq_circuit.specs.Pieces.{AreChanged}
 use Rattle.sq_circuit.specs.declared.circuit.Part.{Part}
 use Rattle.sq_incr.specs.declared.task.Task.{Task}
 use Rattle.sq_shard.specs.Shards.{shards}
+use Rattle.sq_states.specs.Empty.{empty_states}
 use Rattle.sq_states.specs.Keeps.{KeepsNode}
 use Rattle.sq_states.specs.declared.kept.NodeState.{NodeState}
 
@@ -67,3 +69,14 @@ module _ {c : List Part} {states : List (List NodeState)} {totals : List ℤ} {c
 
   abbrev pub part_cost : Task → ℕ
   part_cost t = cost_in (slice_get c t.node) t.shard
+
+-- ---- words for laws
+-- before anything was there, so many empty states and totals of 0 are ready for tables that are good
+abbrev pub StartsReady : List Part → Type 0
+StartsReady c = (n : ℕ) → 0 < n → n ≤ 64 → (changes : List Rows) → IsGood c changes → IsReady c (replicate n (empty_states c)) (replicate (length c) (pos 0)) changes true
+
+-- what is kept of tables without a fault is ready for changes that leave good ones
+abbrev pub StaysReady : List Part → Type 0
+StaysReady c =
+    (states : List (List NodeState)) (totals : List ℤ) (old new changes : List Rows) → 0 < length states → length states ≤ 64 → Keeps false c old states totals → IsGood c old → verdict c old ≡ None
+    → length changes ≡ table_count c → AreChanged false old (table_at changes) new → IsGood c new → IsReady c states totals changes false

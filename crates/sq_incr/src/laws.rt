@@ -9,6 +9,7 @@ ghost use Rattle.sq_incr.specs.Orders.{FirstIllegal, IsLegal, IsToldBy, IsWhole,
 ghost use Rattle.sq_incr.specs.Outcomes.{AllRan, AreLeft, AreTested, IsTick, Skipped, TotalsRise, least_faulty, outcome, step};
 ghost use Rattle.sq_incr.specs.Play.{AnyOrderGives, HasPlayed, IsPlayable, OneMoreKeeps, StepOf, played};
 ghost use Rattle.sq_incr.specs.Commits.{CommitsKeepNew};
+ghost use Rattle.sq_incr.specs.Ready.{StartsReady, StaysReady};
 ghost use Rattle.sq_incr.specs.declared.task.Task.{Task as Turn};
 
 use crate::Task;
@@ -69,6 +70,13 @@ pub fn pieces_of_good_changes_fit()
     ensures parts { (first : Bool) (c : List Known) (n : ℕ) (old new : List Rows) → IsCircuit c → PartsFit first c n old new }
     ensures pieces { (first : Bool) (c : List Known) (n : ℕ) (old new : List Rows) (change : ℕ → Rows) → IsTick first c n old change new → PiecesFit first c n old change new }
     ensures unfit { (first : Bool) (c : List Known) (n : ℕ) (old new : List Rows) (change : ℕ → Rows) → IsTick first c n old change new → UnfitIsFaulty first c n old change new }
+{}
+
+/// Before anything was there, empty states and totals of 0 are ready for tables that are good; and what is kept of tables without
+/// a fault is ready for changes that leave good ones.
+pub fn ticks_are_ready()
+    ensures start { (c : List Known) → StartsReady c }
+    ensures later { (c : List Known) → StaysReady c }
 {}
 
 /// Once all pieces that `play` answers were committed, each in its shard, and each total was raised by those of the pieces of its
