@@ -5,10 +5,18 @@ use Rattle.std.proofs.lemmas.List.{length-map}
 use Rattle.std.proofs.lemmas.Option.{same_Some, slice_get-map}
 use Rattle.sq_expr.specs.Meaning.{columns_of}
 use Rattle.sq_value.specs.Order.{row_cmp}
-use Rattle.sq_value.specs.OrderLaws.{row_cmp-total}
+use Rattle.sq_value.specs.OrderLaws.{row_cmp-total, row_cmp-antisymmetric}
 use Rattle.sq_algebra.specs.Keyed.{cut, numbers_below}
 use Rattle.sq_algebra.specs.ZSet.{entries, from_pairs}
+use Rattle.sq_algebra.specs.Groups.{z_sets}
+use Rattle.sq_algebra.proofs.AbelianLemmas.{neutral_right}
+use Rattle.sq_algebra.proofs.ShardLemmas.{cuts_add_up}
+use Rattle.sq_zset.specs.GroupLaws.{rows_are_abelian}
 use Rattle.sq_algebra.proofs.EntryLemmas.{entries-cut}
+use Rattle.sq_algebra.specs.Groups.{z_sets}
+use Rattle.sq_algebra.proofs.AbelianLemmas.{neutral_right}
+use Rattle.sq_algebra.proofs.ShardLemmas.{cuts_add_up}
+use Rattle.sq_zset.specs.GroupLaws.{rows_are_abelian}
 use Rattle.sq_algebra.proofs.EntryLemmas.{from_pairs-entries}
 use Rattle.sq_circuit.specs.Nodes.{Rows}
 use Rattle.sq_ops.specs.Aggregates.{group_columns}
@@ -32,6 +40,16 @@ module _ (n m : ℕ) (some : n ≡ suc m) (s : ℕ) (z : Rows) (pairs : List Pai
 
   pub own_ready : IsInRange z → IsLight pairs → IsReady pairs
   own_ready fits light = record { light = light; in_range = subst IsInRange (sym own_sums) (cut_fits (shards n) (λ row. row) s z fits) }
+
+-- with one shard all rows are there
+pub only_shard : (n s : ℕ) (z : Rows) → n ≡ 1 → s < n → z ≡ cut (shards n) (λ row. row) s z
+only_shard n s z one low =
+    let first : s ≡ 0 = omega (arith, one, low) in
+    sym (subst (λ k. cut (shards k) (λ row. row) 0 z ≡ z) (sym one) alone)
+    ∙ sym (ap (λ k. cut (shards n) (λ row. row) k z) first)
+  where
+    alone : cut (shards 1) (λ row. row) 0 z ≡ z
+    alone = sym (neutral_right (z_sets row_cmp) rows_are_abelian (cut (shards 1) (λ row. row) 0 z)) ∙ cuts_add_up (shards 1) row_cmp (λ row. row) row_cmp-total row_cmp-antisymmetric z
 
 -- ---- parts by columns
 part_is : (n : ℕ) (columns : List ℕ) (z : Rows) (s : ℕ) → s < n → slice_get (parts n columns z) s ≡ Some (cut (shards n) (columns_of columns) s z)

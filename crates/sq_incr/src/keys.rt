@@ -18,11 +18,15 @@ use sq_value::{NoMemory, Row};
 use sq_zset::{Pair, ZFault, ZSet};
 use std::alloc::Global;
 
-/// The part of a Z-set in one shard, by whole rows; no row is copied.
+/// The part of a Z-set in one shard, by whole rows; no row is copied, and with one shard it is handed on as it is.
 pub fn own_part(alloc: Global, z: ZSet, shards: u32, shard: u32) -> Result<ZSet, NoMemory>
     requires shards { (1 ≤ shards) × (shards ≤ 64) }
+    requires inside { shard < shards }
     ensures { IfOk result (λ part. part ≡ cut (shards_lem shards) (λ row. row) shard z) }
 {
+    if shards == 1 {
+        return Ok(z);
+    }
     let pairs = own_pairs(alloc, z, shards, shard)?;
     sum_of_pairs(alloc, pairs)
 }
