@@ -12,7 +12,7 @@ ghost use Rattle.sq_incr.specs.Commits.{CommitsKeepNew};
 ghost use Rattle.sq_incr.specs.Ready.{StartsReady, StaysReady};
 ghost use Rattle.sq_incr.specs.declared.task.Task.{Task as Turn};
 
-use crate::Task;
+use crate::{Pieces, Task};
 
 /// A legal order stays legal with one more task that may stand behind it, and so does its front. An order is legal or has a
 /// first task that may not stand where it does, and not both; whether a task may stand there is told by a test.
@@ -90,4 +90,9 @@ fn is_send_and_sync<T: Send + Sync>() {}
 // A task may be handed to another thread, and be shared.
 fn tasks_cross_threads() {
     is_send_and_sync::<Task>();
+}
+
+// So may the pieces of all tasks.
+fn pieces_cross_threads() {
+    is_send_and_sync::<Pieces>();
 }
