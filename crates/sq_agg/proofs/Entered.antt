@@ -91,7 +91,7 @@ module _ (c : Row) (i : ℕ) where
   kept_home [] = tt
   kept_home (e ∷ es) = (front_is c (Int (pos i)), kept_home es)
 
-  none_kept : (p : Place) (es : List (Row × ℤ)) → (argument_key c i ≡ p.0 → ⊥) → NoneAt p (kept_entries c i es)
+  pub none_kept : (p : Place) (es : List (Row × ℤ)) → (argument_key c i ≡ p.0 → ⊥) → NoneAt p (kept_entries c i es)
   none_kept p [] other = tt
   none_kept p (e ∷ es) other = (λ same. other (ap (λ (q : Place). q.0) same), none_kept p es other)
 

@@ -32,11 +32,11 @@ use Rattle.sq_agg.proofs.Adding.{rows_held}
 use Rattle.sq_agg.proofs.Keys.{group_not_negative}
 
 -- ---- the row before
-weight_of_one : (row r : Row) → weight row (of_list row_cmp (r ∷ [])) ≡ cond (is_eq (row_cmp row r)) (pos 1) (pos 0) +ℤ pos 0
+pub weight_of_one : (row r : Row) → weight row (of_list row_cmp (r ∷ [])) ≡ cond (is_eq (row_cmp row r)) (pos 1) (pos 0) +ℤ pos 0
 unfolding of_list
 weight_of_one row r = weight-from_pairs row ((r, pos 1) ∷ [])
 
-weight_of_none : (row : Row) → weight row (of_list row_cmp []) ≡ pos 0
+pub weight_of_none : (row : Row) → weight row (of_list row_cmp []) ≡ pos 0
 unfolding of_list
 weight_of_none row = weight-from_pairs row []
 

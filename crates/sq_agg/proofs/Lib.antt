@@ -17,6 +17,8 @@ pub mod Homes
 pub mod Entered
 pub mod Touching
 pub mod Keeping
+pub mod Elsewhere
+pub mod Ranging
 pub mod FirstSums
 pub mod Risen
 pub mod Going

@@ -7,6 +7,8 @@
 --     aggregate_rise first spec y d       what the aggregate has more over y and d than before
 --     IsAfter G parts change now          the parts now hold what the parts and the change give together
 --     KeepsAccumulators .. y d, KeepsArguments, KeepsShown      parts that hold what belongs to y, with a change, hold what belongs to y and d
+--     AddsNoOthers spec change   the change gives nothing under keys of no arguments
+--     LeavesOthers first spec d change    it gives nothing of the groups that the step does not look at
 --     agg_cost first spec d      the steps at most
 use Rattle.std.specs.Prelude.{◌≡◌, ℕ, ◌^◌, ◌≤ℤ◌, ◌&&◌, not, Bool, true, false, if◌then◌else◌, List, [], length, ℤ, pos, Option, None}
 use Rattle.std.specs.List.{All, sum_by}
@@ -21,8 +23,8 @@ use Rattle.sq_ops.specs.Wholes.{has_no_values}
 use Rattle.sq_ops.specs.declared.aggregate.AggSpec.{AggSpec}
 use Rattle.sq_trace.specs.Changes.{changed}
 use Rattle.sq_trace.specs.declared.entry.Entry.{Entry}
-use Rattle.sq_trace.specs.Runs.{Place, content}
-use Rattle.sq_agg.specs.Kept.{HoldsAccumulators, HoldsArguments, KeptAccumulators, Row, Rows}
+use Rattle.sq_trace.specs.Runs.{Place, at, content}
+use Rattle.sq_agg.specs.Kept.{HoldsAccumulators, HoldsArguments, IsOtherKey, KeptAccumulators, Row, Rows}
 use Rattle.sq_agg.specs.Shifts.{group_cost}
 use Rattle.sq_agg.specs.Stepping.{Accumulator, KeptWeights}
 
@@ -76,6 +78,12 @@ KeepsArguments spec parts change y d = (now : KeptWeights) → IsAfter integers 
 -- group by group, also where nothing changes
 abbrev pub KeepsShown : Bool → AggSpec → KeptWeights → List (Entry ℤ) → (y d : Rows) → Type 0
 KeepsShown first spec parts change y d = (c : Row) → HoldsShown first spec parts y c → (now : KeptWeights) → IsAfter integers parts change now → HoldsShown false spec now (plus y d) c
+
+abbrev pub AddsNoOthers : AggSpec → List (Entry ℤ) → Type 0
+AddsNoOthers spec change = (k row : Row) → IsOtherKey spec k → at integers (k, row) change ≡ pos 0
+
+abbrev pub LeavesOthers : Bool → AggSpec → Rows → List (Entry ℤ) → Type 0
+LeavesOthers first spec d change = (c row : Row) → All (λ k. k ≡ c → ⊥) (touched first spec d) → at integers (c, row) change ≡ pos 0
 
 -- ---- steps
 abbrev pub agg_cost : Bool → AggSpec → Rows → ℕ

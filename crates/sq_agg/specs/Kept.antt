@@ -3,6 +3,7 @@
 --     argument_key c i          the key of the arguments of call i, counted from 0: the group, and the number of the call behind it
 --     HoldsAccumulators spec parts z    under each group stands the accumulator of its rows, with the row without values
 --     HoldsArguments spec parts z       the arguments of each call of MIN or MAX that are not NULL, with their weights
+--     IsOtherKey spec k                 no call of MIN or MAX has arguments under this key.      HoldsNoOthers spec parts     there is nothing there
 --     kept_accumulator parts c, group_accumulator spec z c      the accumulator that is kept of a group, and that of its rows
 --     CallAfter f, weights_after, value_after      a group, and a call of MIN or MAX, after a change: the weights of its arguments, and its value
 use Rattle.std.specs.Prelude.{◌≡◌, ℕ, Bool, true, false, if◌then◌else◌, List, [], ◌∷◌, ◌++◌, slice_get, ℤ, pos, Some}
@@ -41,6 +42,12 @@ pub record HoldsAccumulators (spec : AggSpec) (parts : List (List (Entry (ZSet �
 pub record HoldsArguments (spec : AggSpec) (parts : List (List (Entry ℤ))) (z : ZSet (List Value) row_cmp) : Type 0 where
   pub held : (c row : List Value) (i : ℕ) (call : Call) → slice_get spec.calls i ≡ Some call → has_ends call.func ≡ true
       → content integers (argument_key c i, row) parts ≡ weight row (arguments_of_group spec call.arg c z)
+
+abbrev pub IsOtherKey : AggSpec → List Value → Type 0
+IsOtherKey spec k = (c : List Value) (i : ℕ) (call : Call) → slice_get spec.calls i ≡ Some call → has_ends call.func ≡ true → k ≡ argument_key c i → ⊥
+
+pub record HoldsNoOthers (spec : AggSpec) (parts : List (List (Entry ℤ))) : Type 0 where
+  pub none : (k row : List Value) → IsOtherKey spec k → content integers (k, row) parts ≡ pos 0
 
 -- ---- words of the laws
 abbrev pub Row : Type 0

@@ -2,7 +2,7 @@
 ghost use Rattle.std.specs.Prelude.{◌≡◌, ◌≤◌, ◌+◌, ◌^◌, ◌<◌, ◌++◌, ◌∷◌, [], ℤ, List, length, unsigned_abs, None, Some, IfOk, OnOk};
 ghost use Rattle.std.specs.BTreeMap.{keys};
 ghost use Rattle.std.specs.List.{All, AllByRecursion};
-ghost use Rattle.sq_agg.specs.Aggregating.{AggState, FirstOutside, KeepsAccumulators, KeepsArguments, KeepsShown, OnOld, agg_cost, aggregate_rise, touched};
+ghost use Rattle.sq_agg.specs.Aggregating.{AddsNoOthers, AggState, FirstOutside, KeepsAccumulators, KeepsArguments, KeepsShown, LeavesOthers, OnOld, agg_cost, aggregate_rise, touched};
 ghost use Rattle.sq_agg.specs.ByKey.{places_of};
 ghost use Rattle.sq_agg.specs.Entering.{MovesShown, NamesSum, accumulator_entries, accumulators_of, argument_entries, arguments_of_calls, as_pairs, moves_of};
 ghost use Rattle.sq_agg.specs.Shifts.{GroupState, OnState, group_cost};
@@ -77,6 +77,8 @@ pub fn agg_step<L>(
     ensures acc { IfOk result (λ step. OnOld spec.now acc.now ordered.now shown.now d.now first (λ old. KeepsAccumulators spec.now acc.now step.acc old d.now)) }
     ensures ordered { IfOk result (λ step. OnOld spec.now acc.now ordered.now shown.now d.now first (λ old. KeepsArguments spec.now ordered.now step.ordered old d.now)) }
     ensures shown { IfOk result (λ step. OnOld spec.now acc.now ordered.now shown.now d.now first (λ old. KeepsShown first spec.now shown.now step.shown old d.now)) }
+    ensures no_others { IfOk result (λ step. AddsNoOthers spec.now step.ordered) }
+    ensures elsewhere { IfOk result (λ step. LeavesOthers first spec.now d.now step.shown) }
     ensures all_sums { OnOk result (FirstOutside spec.now acc.now ordered.now shown.now d.now first None) }
     ensures outside { (group : List Datum) (sum : ℤ) → result ≡ Err (WholeFault.Sum group sum) → FirstOutside spec.now acc.now ordered.now shown.now d.now first (Some (group, sum)) }
     ensures count { steps.new.count ≤ steps.old.count + agg_cost first spec.now d.now }

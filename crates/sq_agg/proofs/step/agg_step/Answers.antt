@@ -10,6 +10,7 @@ use Rattle.sq_zset.specs.Range.{number_outside}
 use Rattle.sq_agg.specs.Accumulators.{first_number_outside}
 use Rattle.sq_agg.specs.Entering.{as_pairs}
 use Rattle.sq_agg.proofs.Keeping.{accumulators_apart, accumulators_kept, accumulators_within, arguments_apart, arguments_kept, arguments_within, moves_apart, moves_kept, moves_units, moves_within}
+use Rattle.sq_agg.proofs.Elsewhere.{no_others_change, others_stay}
 use Rattle.sq_agg.proofs.Risen.{risen}
 use Rattle.sq_agg.proofs.step.agg_step.Goals as goal
 
@@ -63,3 +64,12 @@ pub returns-clause-shown : goal.returns-clause-shown
 returns-clause-shown g c s =
     moves_kept c.args.spec.now c.args.acc.now c.args.ordered.now c.args.shown.now c.args.d.now c.args.first s c.in_ok-shown.shown
     (subst (λ es. IsRunOf integers number_outside es c.in_ok-shown.shown) (c.in_ok-accs.ensures.shown s) c.in_ok-shown.ensures)
+
+pub returns-clause-no_others : goal.returns-clause-no_others
+returns-clause-no_others g c =
+    no_others_change c.args.spec.now c.args.d.now c.args.first c.in_ok-ordered.ordered (subst (λ es. IsRunOf integers number_outside es c.in_ok-ordered.ordered) c.in_ok-accs.ensures.ordered c.in_ok-ordered.ensures)
+
+pub returns-clause-elsewhere : goal.returns-clause-elsewhere
+returns-clause-elsewhere g c =
+    others_stay c.args.spec.now c.requires.state.old c.args.d.now c.args.first c.in_ok-shown.shown
+    (subst (λ es. IsRunOf integers number_outside es c.in_ok-shown.shown) (c.in_ok-accs.ensures.shown c.requires.state) c.in_ok-shown.ensures)
