@@ -1,13 +1,14 @@
 -- The step of an aggregate, from what its traces hold.
-use Rattle.std.proofs.Common.{◌≡◌, ◌==◌, ℕ, ◌+◌, ◌≤◌, Bool, true, false, cond, ◌&&◌, List, [], ◌∷◌, None, refl, sym, ap, ap₂, subst, ◌∙◌, ℤ, arith}
+use Rattle.std.proofs.Common.{◌≡◌, ◌==◌, ℕ, ◌+◌, ◌≤◌, Bool, true, false, cond, ◌&&◌, List, [], ◌∷◌, None, refl, sym, ap, ap₂, subst, ◌∙◌, ℤ, ◌+ℤ◌, arith}
 use Rattle.std.specs.Prelude.{Ok, Err, Some, Option, Result}
+use Rattle.std.specs.List.{All}
 use Rattle.std.proofs.lemmas.Bool.Decides.{nat_tests}
 use Rattle.sq_value.specs.Order.{row_cmp}
 use Rattle.sq_algebra.specs.Groups.{z_sets}
 use Rattle.sq_algebra.specs.Keyed.{cut}
 use Rattle.sq_algebra.specs.ZSet.{minus, negate, plus, weight}
 use Rattle.sq_algebra.proofs.AbelianLemmas.{minus-plus_same, minus-zero, plus-minus_back}
-use Rattle.sq_agg.specs.Aggregating.{AggState, FirstOutside, HoldsShown, KeepsAccumulators, KeepsArguments, KeepsShown, OnOld, agg_cost, aggregate_rise, before}
+use Rattle.sq_agg.specs.Aggregating.{AddsNoOthers, AggState, FirstOutside, HoldsShown, KeepsAccumulators, KeepsArguments, KeepsShown, LeavesOthers, OnOld, agg_cost, aggregate_rise, before, touched}
 use Rattle.sq_agg.specs.Kept.{KeptAccumulators, Row, Rows}
 use Rattle.sq_agg.specs.Stepping.{Accumulator, KeptWeights}
 use Rattle.sq_circuit.specs.Costs.{aggregate_cost}
@@ -157,29 +158,36 @@ module _ (i : ℕ) (spec : AggSpec) (accs : KeptAccumulators) (ordered shown : K
         subst (λ x. to ≤ from + aggregate_cost first spec x) h.left_is (let low = within_cost spec d first in omega arith)
 
     -- ---- what is kept
+    not_touched : (c : Row) → (h.S.shard c ≡ h.s → ⊥) → All (λ k. k ≡ c → ⊥) (touched first spec d)
+    not_touched c away i e low same = away (subst (λ k. h.S.shard k ≡ h.s) same (touched_here h.S h.s spec first h.dy d h.left_is (λ f. (at_first f).1) i e low))
+
     pub groups_kept : (now : NodeState) (da : List (Entry Accumulator)) (ds de : List (Entry ℤ)) → OnOld spec accs ordered shown d first (λ y. KeepsAccumulators spec accs da y d)
         → OnOld spec accs ordered shown d first (λ y. KeepsArguments spec ordered ds y d) → OnOld spec accs ordered shown d first (λ y. KeepsShown first spec shown de y d)
+        → AddsNoOthers spec ds → LeavesOthers first spec d de
         → IsChanged (state.Groups accs ordered shown) (change.Groups da ds de) now → OnGroups now (λ newaccs newordered newshown. HoldsGroups false h.S h.s spec newaccs newordered newshown (cut h.S (group_of spec) h.s (plus h.y h.dy)))
     unfolding agg_state
-    groups_kept state.Nothing da ds de keeps_accs keeps_ordered keeps_shown changed = absurd changed
-    groups_kept (state.Rows parts) da ds de keeps_accs keeps_ordered keeps_shown changed = absurd changed
-    groups_kept (state.Sides a b) da ds de keeps_accs keeps_ordered keeps_shown changed = absurd changed
-    groups_kept (state.Groups newaccs newordered newshown) da ds de keeps_accs keeps_ordered keeps_shown changed =
+    groups_kept state.Nothing da ds de keeps_accs keeps_ordered keeps_shown alone others changed = absurd changed
+    groups_kept (state.Rows parts) da ds de keeps_accs keeps_ordered keeps_shown alone others changed = absurd changed
+    groups_kept (state.Sides a b) da ds de keeps_accs keeps_ordered keeps_shown alone others changed = absurd changed
+    groups_kept (state.Groups newaccs newordered newshown) da ds de keeps_accs keeps_ordered keeps_shown alone others changed =
         subst (λ y. HoldsGroups false h.S h.s spec newaccs newordered newshown y) (after_cut h.S (group_of spec) h.s h.y h.dy d h.left_is) (record {
           accumulators = keeps_accs agg_state newaccs changed.0;
           arguments = keeps_ordered agg_state newordered changed.1;
+          no_others = record { none = λ k row other. changed.1.held (k, row) ∙ ap₂ (λ m n. m +ℤ n) (h.keeps.no_others.none k row other) (alone k row other) };
           shown_rows = λ c here. keeps_shown agg_state c (shown_here c here) newshown changed.2;
+          elsewhere = λ c row away. changed.2.held (c, row) ∙ ap₂ (λ m n. m +ℤ n) (h.keeps.elsewhere c row away) (others c row (not_touched c away));
         })
 
   pub group_steps : (from to : ℕ) (p : Piece) (da : List (Entry Accumulator)) (ds de : List (Entry ℤ)) → p.kept ≡ change.Groups da ds de
       → OnOld spec accs ordered shown d first (λ y. p.change ≡ aggregate_rise first spec y d) → IsInRange p.change
       → OnOld spec accs ordered shown d first (λ y. KeepsAccumulators spec accs da y d) → OnOld spec accs ordered shown d first (λ y. KeepsArguments spec ordered ds y d)
-      → OnOld spec accs ordered shown d first (λ y. KeepsShown first spec shown de y d) → FirstOutside spec accs ordered shown d first None → to ≤ from + agg_cost first spec d
+      → OnOld spec accs ordered shown d first (λ y. KeepsShown first spec shown de y d) → AddsNoOthers spec ds → LeavesOthers first spec d de
+      → FirstOutside spec accs ordered shown d first None → to ≤ from + agg_cost first spec d
       → IsStepped (Aggregate i spec) (state.Groups accs ordered shown) d right first (Ok p) from to
-  group_steps from to p da ds de is_change is in_range keeps_accs keeps_ordered keeps_shown sums few =
+  group_steps from to p da ds de is_change is in_range keeps_accs keeps_ordered keeps_shown alone others sums few =
       stepped (Aggregate i spec) (state.Groups accs ordered shown) d right first from to p
       (λ h. group_piece h p.change is) in_range
-      (λ h now changed. groups_kept h now da ds de keeps_accs keeps_ordered keeps_shown (subst (λ c. IsChanged (state.Groups accs ordered shown) c now) is_change changed))
+      (λ h now changed. groups_kept h now da ds de keeps_accs keeps_ordered keeps_shown alone others (subst (λ c. IsChanged (state.Groups accs ordered shown) c now) is_change changed))
       (λ h. ap change_kind is_change) (λ h. record { values = refl; sums = sums_after h None sums }) (λ h. group_few h from to few)
 
 -- a SUM outside the range of BIGINT

@@ -43,7 +43,9 @@ keeps_none S s (Distinct i) = no_rows
 keeps_none S s (Aggregate i spec) = record {
   accumulators = record { held = λ c row. same_either _ _ _ (ap (accumulated spec.calls) (at_key-zero (group_of spec) c) ∙ accumulated-zero spec.calls) };
   arguments = record { held = λ c row i call found ends. sym (ap (weight row) (ap (arguments call.arg) (at_key-zero (group_of spec) c) ∙ image-zero (argument_of call.arg)) ∙ weight-zero row) };
+  no_others = record { none = λ k row other. refl };
   shown_rows = λ c here. record { held = λ row. sym (weight-zero row) };
+  elsewhere = λ c row away. refl;
 }
 keeps_none S s (Plus l r) = tt
 keeps_none S s (Minus l r) = tt

@@ -1,13 +1,12 @@
 -- What is prepared of a node's traces, and what a commit makes of its state.
 --     StaysInRange state change     at each place what a trace holds and its change together lie in the range
---     is_aggregate n                whether the node is an Aggregate
 --     taken parts ready             a trace after what was prepared of it; one that does not change stays
 --     CanTake G outside parts ready      the trace has the parts that are to stay, and adds up within the range afterwards
 --     CanCommit state traces        each trace of the state can take what was prepared
 --     state_after state traces      the state after that
 --     IsReadyFor state change traces     it can be committed, and is then the state with the change
 --     CommitsKeep, PiecesStay n kept      a state that takes what was prepared keeps the new rows; its traces stay in range with a piece
-use Rattle.std.specs.Prelude.{◌≡◌, ℕ, ◌≤◌, Bool, true, false, List, length, ℤ, Option, Some, None, ⊤}
+use Rattle.std.specs.Prelude.{◌≡◌, ℕ, ◌≤◌, Bool, List, length, ℤ, Option, Some, None, ⊤}
 use Rattle.std.specs.Ordering.{nat_cmp}
 use Rattle.sq_algebra.specs.Groups.{AbelianGroup, integers, z_sets}
 use Rattle.sq_agg.specs.Accumulators.{first_number_outside}
@@ -16,7 +15,6 @@ use Rattle.sq_agg.specs.Stepping.{Accumulator}
 use Rattle.sq_algebra.specs.ZSet.{plus}
 use Rattle.sq_circuit.specs.Nodes.{Rows}
 use Rattle.sq_circuit.specs.declared.node.Node.{Node}
-use Rattle.sq_circuit.specs.declared.node.Node.TheVariants.{Table, Linear, Join, Distinct, Aggregate, Plus, Minus, View}
 use Rattle.sq_trace.specs.Changes.{changed, committed}
 use Rattle.sq_trace.specs.Runs.{AddsUpInRange, Place}
 use Rattle.sq_trace.specs.declared.entry.Entry.{Entry}
@@ -58,16 +56,6 @@ abbrev pub TakesAccumulators : List (List (Entry Accumulator)) → Option (ℕ �
 TakesAccumulators parts p = CanTake (z_sets nat_cmp) first_number_outside parts p
 
 -- ---- the traces of a node
-abbrev pub is_aggregate : Node → Bool
-is_aggregate (Table t) = false
-is_aggregate (Linear i op) = false
-is_aggregate (Join l r op) = false
-is_aggregate (Distinct i) = false
-is_aggregate (Aggregate i spec) = true
-is_aggregate (Plus l r) = false
-is_aggregate (Minus l r) = false
-is_aggregate (View i v) = false
-
 abbrev pub StaysInRange : NodeState → StateChange → Type 0
 StaysInRange state.Nothing change.Nothing = ⊤
 StaysInRange state.Nothing (change.Rows d) = ⊥

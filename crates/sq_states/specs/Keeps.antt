@@ -6,14 +6,14 @@
 --     state_kind state, change_kind d     which of the four kinds of state it is, or is the change of
 --     IsPieceOf start n S s y dy z dz answer     what the node's share of the new rows has more than that of the old ones
 --     OnNode c i states P                 P holds of the node i and its state
-use Rattle.std.specs.Prelude.{◌≡◌, ℕ, Bool, List, slice_get, Some, ⊤}
+use Rattle.std.specs.Prelude.{◌≡◌, ℕ, Bool, List, slice_get, pos, Some, ⊤}
 use Rattle.std.specs.Ordering.{nat_cmp}
 use Rattle.sq_value.specs.declared.value.Value.{Value}
 use Rattle.sq_algebra.specs.Groups.{integers, z_sets}
 use Rattle.sq_algebra.specs.Keyed.{Shards, cut}
 use Rattle.sq_algebra.specs.ZSet.{minus, plus}
 use Rattle.sq_agg.specs.Aggregating.{HoldsShown, IsAfter}
-use Rattle.sq_agg.specs.Kept.{HoldsAccumulators, HoldsArguments, KeptAccumulators}
+use Rattle.sq_agg.specs.Kept.{HoldsAccumulators, HoldsArguments, HoldsNoOthers, KeptAccumulators}
 use Rattle.sq_agg.specs.Stepping.{KeptWeights}
 use Rattle.sq_circuit.specs.Circuits.{node_at}
 use Rattle.sq_circuit.specs.Costs.{before}
@@ -26,6 +26,7 @@ use Rattle.sq_distinct.specs.Stepping.{HoldsRows}
 use Rattle.sq_join.specs.Stepping.{HoldsByKey}
 use Rattle.sq_ops.specs.Joins.{key_in}
 use Rattle.sq_ops.specs.declared.aggregate.AggSpec.{AggSpec}
+use Rattle.sq_trace.specs.Runs.{content}
 use Rattle.sq_states.specs.declared.kept.NodeState.{NodeState}
 use Rattle.sq_states.specs.declared.kept.NodeState.TheVariants as state
 use Rattle.sq_states.specs.declared.piece.StateChange.{StateChange}
@@ -57,11 +58,13 @@ OnGroups (state.Sides a b) P = ⊥
 OnGroups (state.Groups accs ordered shown) P = P accs ordered shown
 
 -- ---- what is kept
--- y is the part of the shard; a group is shown in its own shard alone
+-- y is the part of the shard; a group is shown in its own shard alone, and nothing stands at other places
 pub record HoldsGroups (start : Bool) (S : Shards (List Value)) (s : ℕ) (spec : AggSpec) (accs : KeptAccumulators) (ordered shown : KeptWeights) (y : Rows) : Type 0 where
   pub accumulators : HoldsAccumulators spec accs y
   pub arguments : HoldsArguments spec ordered y
+  pub no_others : HoldsNoOthers spec ordered
   pub shown_rows : (c : List Value) → S.shard c ≡ s → HoldsShown start spec shown y c
+  pub elsewhere : (c row : List Value) → (S.shard c ≡ s → ⊥) → content integers (c, row) shown ≡ pos 0
 
 -- y and z are the parts of the shard
 abbrev pub KeepsParts : Bool → Shards (List Value) → ℕ → Node → NodeState → Rows → Rows → Type 0

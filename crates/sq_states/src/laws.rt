@@ -1,5 +1,5 @@
 //! What holds of states and steps, each as the contract of a function that does nothing.
-ghost use Rattle.std.specs.Prelude.{◌≡◌, ◌↔◌, ℕ, ℤ, List, None, Some, false, true, slice_get};
+ghost use Rattle.std.specs.Prelude.{◌≡◌, ◌↔◌, ℕ, ℤ, List, None, Some, true, slice_get};
 ghost use Rattle.sq_algebra.specs.Keyed.{Shards, cut};
 ghost use Rattle.sq_algebra.specs.ZSet.{plus};
 ghost use Rattle.sq_circuit.specs.Circuits.{node_at};
@@ -9,7 +9,7 @@ ghost use Rattle.sq_circuit.specs.declared.node.Node.{Node as Operator};
 ghost use Rattle.sq_ops.specs.Aggregates.{first_sum_outside, group_of};
 ghost use Rattle.sq_ops.specs.Extensions.{first_value_outside};
 ghost use Rattle.sq_ops.specs.declared.aggregate.AggSpec.{AggSpec as Aggregating};
-ghost use Rattle.sq_states.specs.Committing.{CommitsKeep, PiecesStay, is_aggregate};
+ghost use Rattle.sq_states.specs.Committing.{CommitsKeep, PiecesStay};
 ghost use Rattle.sq_states.specs.Empty.{empty_state, empty_states};
 ghost use Rattle.sq_states.specs.Keeps.{KeepsNode};
 ghost use Rattle.sq_states.specs.declared.kept.NodeState.{NodeState as Kept};
@@ -43,9 +43,9 @@ pub fn commits_keep_the_new_rows()
     ensures { (n : Operator) (kept : Kept) → CommitsKeep n kept }
 {}
 
-/// The traces of a node that is no Aggregate stay in range with the change of a piece, if the new rows that it reads are in range.
+/// The traces of a node stay in range with the change of a piece, if the new rows that it reads are in range.
 pub fn pieces_stay_in_range()
-    ensures { (n : Operator) (kept : Kept) → is_aggregate n ≡ false → PiecesStay n kept }
+    ensures { (n : Operator) (kept : Kept) → PiecesStay n kept }
 {}
 
 fn is_send_and_sync<T: Send + Sync>() {}

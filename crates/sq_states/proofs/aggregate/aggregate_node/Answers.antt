@@ -14,5 +14,5 @@ returns-in_err-made-clause-stepped g c i right =
 pub returns-clause-stepped : goal.returns-clause-stepped
 returns-clause-stepped g c i right =
     group_steps i c.args.spec.now c.args.acc.now c.args.ordered.now c.args.shown.now c.args.d.now right c.args.first c.args.steps.now.count c.agg_step.new.steps.count _
-    c.in_ok-made.made.acc c.in_ok-made.made.ordered c.in_ok-made.made.shown refl c.in_ok-made.ensures.change c.in_ok-made.ensures.in_range c.in_ok-made.ensures.acc c.in_ok-made.ensures.ordered c.in_ok-made.ensures.shown
+    c.in_ok-made.made.acc c.in_ok-made.made.ordered c.in_ok-made.made.shown refl c.in_ok-made.ensures.change c.in_ok-made.ensures.in_range c.in_ok-made.ensures.acc c.in_ok-made.ensures.ordered c.in_ok-made.ensures.shown c.in_ok-made.ensures.no_others c.in_ok-made.ensures.elsewhere
     c.in_ok-made.ensures.all_sums c.agg_step.ensures.count
