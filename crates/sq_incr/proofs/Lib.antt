@@ -18,4 +18,5 @@ pub mod Turning
 pub mod Judging
 pub mod Answering
 pub mod Committing
+pub mod Preparing
 pub mod Beginning

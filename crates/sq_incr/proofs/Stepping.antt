@@ -29,7 +29,7 @@ use Rattle.sq_circuit.specs.declared.node.Node.TheVariants.{Table, Linear, Join,
 use Rattle.sq_circuit.proofs.Evaluating.{fault_at}
 use Rattle.sq_shard.proofs.Parting.{empty_key}
 use Rattle.sq_shard.specs.Shards.{shards}
-use Rattle.sq_states.specs.Committing.{StaysInRange, is_aggregate}
+use Rattle.sq_states.specs.Committing.{StaysInRange}
 use Rattle.sq_states.specs.Keeps.{IsChanged, KeepsNode, state_kind}
 use Rattle.sq_states.specs.Steps.{IsFault, IsStepped, NoFault, NodeStep, sum_outside, value_outside}
 use Rattle.sq_states.specs.declared.kept.NodeState.{NodeState}
@@ -234,9 +234,9 @@ module _ {c : List Part} (circuit : IsCircuit c) {states : List (List NodeState)
             subst (λ q. KeepsPart false c r.new (length states) q s now) (same_Some p q (sym e ∙ at))
             (keeps_new now (st.keeps begin now (subst (λ k. IsChanged k piece.kept now) (same_kept states i s other kept there is) changed)));
         kind = λ other there. st.kind begin ∙ ap state_kind (same_kept states i s kept other is there);
-        stays = λ q other at there simple.
+        stays = λ q other at there.
             subst (λ k. StaysInRange k piece.kept) (same_kept states i s kept other is there)
-            (piece_stays begin piece (ap (λ q. is_aggregate q.node) (same_Some p q (sym e ∙ at)) ∙ simple) left_range right_range (st.kind begin) st.keeps);
+            (piece_stays begin piece left_range right_range (st.kind begin) st.keeps);
       }
 
       pub told : (made : Result Piece StepRefusal) (slot : Slot) → IsSlotOf made slot → IfOk made (λ piece. piece.node ≡ i) → IsStepped p.node kept left right (first && s == 0) made old new → IsTold r i s slot

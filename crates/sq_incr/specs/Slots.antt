@@ -16,7 +16,7 @@ use Rattle.sq_circuit.specs.Verdicts.{source_sound}
 use Rattle.sq_circuit.specs.declared.circuit.Part.{Part}
 use Rattle.sq_zset.specs.Range.{IsInRange}
 use Rattle.sq_shard.specs.Shards.{shards}
-use Rattle.sq_states.specs.Committing.{StaysInRange, is_aggregate}
+use Rattle.sq_states.specs.Committing.{StaysInRange}
 use Rattle.sq_states.specs.Keeps.{IsChanged, change_kind, state_kind}
 use Rattle.sq_states.specs.declared.kept.NodeState.{NodeState}
 use Rattle.sq_states.specs.declared.piece.Piece.{Piece}
@@ -70,7 +70,7 @@ module _ {c : List Part} {states : List (List NodeState)} {totals : List ℤ} {c
     pub in_range : IsInRange piece.change
     pub keeps : (p : Part) (kept now : NodeState) → slice_get c i ≡ Some p → IsKept states i s kept → IsChanged kept piece.kept now → KeepsPart false c r.new (length states) p s now
     pub kind : (kept : NodeState) → IsKept states i s kept → change_kind piece.kept ≡ state_kind kept
-    pub stays : (p : Part) (kept : NodeState) → slice_get c i ≡ Some p → IsKept states i s kept → is_aggregate p.node ≡ false → StaysInRange kept piece.kept
+    pub stays : (p : Part) (kept : NodeState) → slice_get c i ≡ Some p → IsKept states i s kept → StaysInRange kept piece.kept
 
   -- ---- a task
   abbrev pub is_readable : ℕ → Bool

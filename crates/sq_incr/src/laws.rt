@@ -8,7 +8,7 @@ ghost use Rattle.sq_incr.specs.Fits.{PartsFit, PiecesFit, UnfitIsFaulty};
 ghost use Rattle.sq_incr.specs.Orders.{FirstIllegal, IsLegal, IsToldBy, IsWhole, MayStand, TellsMissing, all_tasks, task};
 ghost use Rattle.sq_incr.specs.Outcomes.{AllRan, AreLeft, AreTested, IsTick, Skipped, TotalsRise, least_faulty, outcome, step};
 ghost use Rattle.sq_incr.specs.Play.{AnyOrderGives, HasPlayed, IsPlayable, OneMoreKeeps, StepOf, played};
-ghost use Rattle.sq_incr.specs.Commits.{CommitsKeepNew};
+ghost use Rattle.sq_incr.specs.Commits.{CommitsKeepNew, PiecesCanBePrepared};
 ghost use Rattle.sq_incr.specs.Ready.{StartsReady, StaysReady};
 ghost use Rattle.sq_incr.specs.declared.task.Task.{Task as Turn};
 
@@ -96,3 +96,9 @@ fn tasks_cross_threads() {
 fn pieces_cross_threads() {
     is_send_and_sync::<Pieces>();
 }
+
+/// The piece of each task that `play` answers can be prepared in the state of its shard: the state has the node, and its traces
+/// stay in range with the piece.
+pub fn pieces_can_be_prepared()
+    ensures { (c : List Known) → PiecesCanBePrepared c }
+{}
