@@ -20,3 +20,5 @@ pub mod Answering
 pub mod Committing
 pub mod Preparing
 pub mod Beginning
+pub mod ShardCosts
+pub mod Spending

@@ -10,3 +10,4 @@ pub mod Plays
 pub mod Ends
 pub mod Played
 pub mod Commits
+pub mod TickCosts

@@ -10,6 +10,7 @@ ghost use Rattle.sq_incr.specs.Outcomes.{AllRan, AreLeft, AreTested, IsTick, Ski
 ghost use Rattle.sq_incr.specs.Play.{AnyOrderGives, HasPlayed, IsPlayable, OneMoreKeeps, StepOf, played};
 ghost use Rattle.sq_incr.specs.Commits.{CommitsKeepNew, PiecesCanBePrepared};
 ghost use Rattle.sq_incr.specs.Ready.{StartsReady, StaysReady};
+ghost use Rattle.sq_incr.specs.TickCosts.{OrdersCostAtMost, PartsCostTheNode, TasksCostTheTick};
 ghost use Rattle.sq_incr.specs.declared.task.Task.{Task as Turn};
 
 use crate::{Pieces, Task};
@@ -83,6 +84,14 @@ pub fn ticks_are_ready()
 /// node, the states keep what belongs to the new tables, and the totals are theirs.
 pub fn commits_keep_the_new_tables()
     ensures { (c : List Known) → IsCircuit c → CommitsKeepNew c }
+{}
+
+/// Over n shards the parts of a node together cost what the node costs. So all tasks of a tick cost what the tick costs, and those
+/// of a legal order no more, whatever the number of shards is.
+pub fn tasks_cost_what_the_tick_costs()
+    ensures node { (n : ℕ) → 0 < n → PartsCostTheNode n }
+    ensures tasks { (c : List Known) → TasksCostTheTick c }
+    ensures order { (c : List Known) → OrdersCostAtMost c }
 {}
 
 fn is_send_and_sync<T: Send + Sync>() {}
