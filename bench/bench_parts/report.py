@@ -33,6 +33,18 @@ def table(results):
     return "\n".join(lines)
 
 
+def triggers_table(results):
+    """The workloads for which triggers were written by hand."""
+    lines = ["| Workload | Rows | Ours, ms a tick | Triggers, ms a tick | Triggers / ours | PostgreSQL's view / triggers |", "|---|---|---|---|---|---|"]
+    for workload, rounds in results:
+        if not any("triggers" in done for done in rounds):
+            continue
+        cells = [workload.name, f"{workload.rows:,}", *(spread([done[name].tick for done in rounds], 1000) for name in ("ours", "triggers"))]
+        cells += [spread(ratios(rounds, *pair, "tick")) for pair in (("triggers", "ours"), ("PostgreSQL", "triggers"))]
+        lines.append("| " + " | ".join(cells) + " |")
+    return "\n".join(lines)
+
+
 def load_table(results):
     """Loading and memory, for the workloads that the program by hand has too."""
     lines = ["| Rows | Ours, rows a second | SQLite / ours | PostgreSQL / ours | Ours / by hand | Ours, bytes a row | Memory, ours / by hand |"]

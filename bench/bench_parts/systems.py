@@ -144,15 +144,17 @@ class PostgreSQL:
 
     def __init__(self):
         self.server = Postgres()
+        self.cause = None
 
     def start(self):
-        return self.server.start()
+        self.cause = self.server.start()
+        return self.cause
 
     def measure(self, workload, seconds, most=MOST):
         with subprocess.Popen(self.server.words, stdin=subprocess.PIPE, stdout=subprocess.PIPE, text=True) as psql:
             indexes = [f"CREATE INDEX ON {table}({column})" for table, column in workload.indexes]
             self.ask(psql, "BEGIN; CREATE SCHEMA bench; SET LOCAL search_path = bench;\n")
-            self.ask(psql, ";\n".join([*program_of(workload), *indexes]) + ";\n")
+            self.ask(psql, ";\n".join([*self.program(workload), *indexes]) + ";\n")
             compute = "\\o /dev/null\n" + "".join(f"SELECT * FROM {name};\n" for name in workload.views) + "\\o\n"
             began = time.monotonic()
             self.ask(psql, self.statements(workload, workload.load) + compute)
@@ -171,6 +173,9 @@ class PostgreSQL:
             psql.stdin.write("ROLLBACK;\n")
             psql.stdin.close()
         return Figures(loaded - began, spent / count, None, count, dict(zip(workload.views, map(int, counted))))
+
+    def program(self, workload):
+        return program_of(workload)
 
     def ask(self, psql, text):
         """Sends statements, waits for the end of the last one, and gives what is printed."""
@@ -197,6 +202,21 @@ class PostgreSQL:
                 group = []
             group.append(change)
         return "".join(parts)
+
+
+class Triggers(PostgreSQL):
+    """PostgreSQL whose triggers keep a view as a table, for the workloads that have such ones. It uses the server that is started."""
+
+    name = "triggers"
+
+    def __init__(self, postgres):
+        self.server, self.postgres = postgres.server, postgres
+
+    def start(self):
+        return self.postgres.cause
+
+    def program(self, workload):
+        return [*program_of(workload._replace(views={})), *workload.kept]
 
 
 class ByHand(Streamed):

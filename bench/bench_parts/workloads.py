@@ -5,8 +5,9 @@ A change is ("insert" or "delete", table, row). The first column of a table that
 from collections import namedtuple
 from itertools import islice
 
-# `indexes` are the columns that the databases get an index for; `size` is the number of changes of a tick.
-Workload = namedtuple("Workload", "name rows size tables views indexes load changes")
+# `indexes` are the columns that the databases get an index for; `size` is the number of changes of a tick; `kept` are statements by which
+# PostgreSQL keeps the views as tables, where that is simple.
+Workload = namedtuple("Workload", "name rows size tables views indexes load changes kept", defaults=[()])
 
 SAMPLE_TABLES = {"d": ("k", "g"), "e": ("id", "k", "n")}
 SAMPLE_VIEWS = {
@@ -60,6 +61,37 @@ def sample(count, size=1):
         return in_turn("e", events, events_from(count, Draws(state)))
 
     return Workload(name, count, size, SAMPLE_TABLES, SAMPLE_VIEWS, indexes, load, changes)
+
+
+# A table for the view, and a trigger for each kind of statement, which adds up what came or went by its key.
+KEPT_SUMS = (
+    "CREATE TABLE sums (k INTEGER PRIMARY KEY, c BIGINT NOT NULL, s BIGINT NOT NULL)",
+    """CREATE FUNCTION keep_inserts() RETURNS trigger LANGUAGE plpgsql AS $$ BEGIN
+      INSERT INTO sums SELECT k, COUNT(*), SUM(n) FROM came GROUP BY k
+        ON CONFLICT (k) DO UPDATE SET c = sums.c + EXCLUDED.c, s = sums.s + EXCLUDED.s;
+      RETURN NULL; END $$""",
+    """CREATE FUNCTION keep_deletes() RETURNS trigger LANGUAGE plpgsql AS $$ BEGIN
+      UPDATE sums SET c = sums.c - less.c, s = sums.s - less.s
+        FROM (SELECT k, COUNT(*) AS c, SUM(n) AS s FROM gone GROUP BY k) AS less WHERE sums.k = less.k;
+      DELETE FROM sums USING gone WHERE sums.k = gone.k AND sums.c = 0;
+      RETURN NULL; END $$""",
+    "CREATE TRIGGER came AFTER INSERT ON e REFERENCING NEW TABLE AS came FOR EACH STATEMENT EXECUTE FUNCTION keep_inserts()",
+    "CREATE TRIGGER gone AFTER DELETE ON e REFERENCING OLD TABLE AS gone FOR EACH STATEMENT EXECUTE FUNCTION keep_deletes()",
+)
+
+
+def sums(count):
+    """One aggregate over events of 1,000 keys, which triggers can keep too."""
+    drawn = Draws(3)
+    events = list(islice(events_from(0, drawn), count))
+    state = drawn.state
+    views = {"sums": "SELECT k, COUNT(*) AS c, SUM(n) AS s FROM e GROUP BY k"}
+    load = [("insert", "e", row) for row in events]
+
+    def changes():
+        return in_turn("e", events, events_from(count, Draws(state)))
+
+    return Workload("one aggregate", count, 1, {"e": ("id", "k", "n")}, views, (("e", "id"), ("e", "k")), load, changes, KEPT_SUMS)
 
 
 def items_from(number, drawn, orders):

@@ -5,3 +5,4 @@ pub mod FitLemmas
 mod Places
 pub mod CutLemmas
 pub mod PieceLemmas
+pub mod Saying

@@ -1,9 +1,9 @@
 -- What is cut from any list of pieces is what is cut from all bytes at once.
 use Rattle.std.specs.Prelude.{◌==◌, map, take}
-use Rattle.std.proofs.Common.{◌≡◌, ℕ, zero, suc, ◌+◌, List, [], ◌∷◌, ◌++◌, length, Bool, true, false, refl, sym, ap, ◌∙◌, arith, append_assoc, append-nil}
+use Rattle.std.proofs.Common.{◌≡◌, ℕ, zero, suc, ◌+◌, List, [], ◌∷◌, ◌++◌, length, Bool, true, false, refl, sym, ap, ◌∙◌, arith, append_assoc, append-nil, ap₂, length-append}
 use Rattle.std.specs.List.{concat, enumerate_from}
 use Rattle.std.proofs.lemmas.List.{length-map}
-use Rattle.sq_lines.specs.Cutting.{Cutting, answer, answers, ended, fed, kept, last_of, line_feed, lines_of, most_kept, raw_lines, uncut, unfinished}
+use Rattle.sq_lines.specs.Cutting.{Cutting, answer, answers, cut_after, ended, fed, kept, last_line, last_of, line_feed, lines_of, most_kept, raw_lines, uncut, unfinished}
 use Rattle.sq_lines.specs.declared.line.RawLine.{RawLine}
 use Rattle.sq_lines.proofs.CutLemmas.{ended-append, unfinished-append, lines_are_cut}
 
@@ -87,3 +87,35 @@ pieces_are_cut c begun (p ∷ ps) is =
 
 pub any_pieces : (pieces : List (List ℕ)) → answers uncut pieces ≡ raw_lines 0 (lines_of (concat pieces))
 any_pieces pieces = pieces_are_cut uncut [] pieces refl ∙ ap (raw_lines 0) (lines_are_cut (concat pieces))
+
+-- ---- behind some bytes
+left_kept : (a : List ℕ) → kept (kept (unfinished [] a)) ≡ kept (unfinished [] a)
+left_kept a = kept_twice (unfinished [] a)
+
+many_kept : (a piece : List ℕ) → length (ended (kept (unfinished [] a)) piece) ≡ length (ended (unfinished [] a) piece)
+many_kept a piece =
+    let u = unfinished [] a in
+    sym (length-map (ended (kept u) piece) kept) ∙ ap length (ended_alike (kept u) u piece (left_kept a)) ∙ length-map (ended u piece) kept
+
+pub fed_after : (a piece : List ℕ) → fed (cut_after a) piece ≡ cut_after (a ++ piece)
+fed_after a piece =
+    let u = unfinished [] a in
+    let handed : length (ended [] a) + length (ended (kept u) piece) ≡ length (ended [] (a ++ piece)) =
+    ap (λ n. length (ended [] a) + n) (many_kept a piece) ∙ sym (length-append (ended [] a) (ended u piece)) ∙ sym (ap length (ended-append [] a piece)) in
+    let begun : kept (unfinished (kept u) piece) ≡ kept (unfinished [] (a ++ piece)) =
+    unfinished_alike (kept u) u piece (left_kept a) ∙ sym (ap kept (unfinished-append [] a piece)) in
+    ap₂ (λ h b. record { handed = h; begun = b }) handed begun
+
+pub raw_after : (a piece : List ℕ) → raw_lines 0 (ended [] (a ++ piece)) ≡ raw_lines 0 (ended [] a) ++ answer (cut_after a) piece
+raw_after a piece =
+    let u = unfinished [] a in
+    let many : 0 + length (ended [] a) ≡ length (ended [] a) = omega arith in
+    ap (raw_lines 0) (ended-append [] a piece) ∙ raw_append 0 (ended [] a) (ended u piece)
+    ∙ ap (λ rs. raw_lines 0 (ended [] a) ++ rs) (raw_alike _ _ (ended u piece) (ended (kept u) piece) many (sym (ended_alike (kept u) u piece (left_kept a))))
+
+pub raw_last : (a : List ℕ) → raw_lines 0 (lines_of a) ≡ raw_lines 0 (ended [] a) ++ last_line (cut_after a)
+raw_last a =
+    let u = unfinished [] a in
+    let many : 0 + length (ended [] a) ≡ length (ended [] a) = omega arith in
+    ap (raw_lines 0) (sym (lines_are_cut a)) ∙ raw_append 0 (ended [] a) (last_of u)
+    ∙ ap (λ rs. raw_lines 0 (ended [] a) ++ rs) (raw_alike _ _ (last_of u) (last_of (kept u)) many (sym (last_alike u)))

@@ -6,6 +6,7 @@
 --     raw_lines n lines           the lines as they are handed out if n were handed out before
 --     Cutting                     where the cutting stands: how many lines were handed out, and what is kept of the next one
 --     answer c piece, fed c piece       what a piece brings, and where the cutting stands behind it
+--     cut_after bytes             where it stands behind these bytes
 --     last_line c                 what is left at the end
 --     answers c pieces            all that pieces bring, one after the other, and what is left at the end
 use Rattle.std.specs.Prelude.{ℕ, ◌+◌, ◌==◌, List, [], ◌∷◌, ◌++◌, length, map, take, if◌then◌else◌}
@@ -57,6 +58,9 @@ answer c piece = raw_lines c.handed (ended c.begun piece)
 
 abbrev pub fed : Cutting → List ℕ → Cutting
 fed c piece = record { handed = c.handed + length (ended c.begun piece); begun = kept (unfinished c.begun piece) }
+
+abbrev pub cut_after : List ℕ → Cutting
+cut_after bytes = record { handed = length (ended [] bytes); begun = kept (unfinished [] bytes) }
 
 -- bytes that stand behind the last line end are a line, if there is one
 abbrev pub last_of : List ℕ → List (List ℕ)

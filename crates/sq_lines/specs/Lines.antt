@@ -1,5 +1,5 @@
 -- What one change line says over the relations of a program.
-use Rattle.std.specs.Prelude.{ℕ, ◌==◌, ◌||◌, ◌&&◌, ◌+◌, nat_lt, Bool, true, false, List, length, map, if◌then◌else◌, codes, Option, Some, None, is_some}
+use Rattle.std.specs.Prelude.{ℕ, ◌==◌, ◌||◌, ◌&&◌, ◌+◌, nat_lt, Bool, true, false, List, [], length, map, if◌then◌else◌, codes, Option, Some, None, is_some}
 use Rattle.std.specs.List.{list_all, list_any}
 use Rattle.std.specs.Str.{is_utf8}
 use Rattle.serde_json.specs.Data.{Data, boolean, Members, no_members, member}
@@ -76,6 +76,10 @@ decoded relations n bytes =
 abbrev pub is_commit : Line → Bool
 is_commit Commit = true
 is_commit _ = false
+
+-- whether some bytes are a commit line; no table has a say in that
+abbrev pub says_commit : List ℕ → Bool
+says_commit bytes = is_commit (decoded [] 1 bytes)
 
 abbrev pub is_blank : Line → Bool
 is_blank Blank = true

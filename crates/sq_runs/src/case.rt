@@ -67,7 +67,7 @@ impl<'a> Case<'a> {
     }
 
     /// `each read` or `each write`, if the run is to be made once for each call that can fail.
-    pub fn call_that_fails(self) -> &'a str {
+    pub fn each(self) -> &'a str {
         self.field(10)
     }
 }

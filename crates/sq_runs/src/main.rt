@@ -3,6 +3,7 @@
 #![tactic(auto)]
 
 mod case;
+mod cut;
 mod each_call;
 mod play;
 mod wanted;
@@ -33,7 +34,7 @@ fn run_case<R: Threads + Sync + Files + AllocGlobal + Print>(
 ) -> anyhow::Result<()> {
     let wanted = read_wanted(rt, alloc, case.name())?;
     let input = wanted::read_input(rt, alloc, case.input())?;
-    match case.call_that_fails() {
+    match case.each() {
         "each read" => {
             let count = count_failing_reads(rt, alloc, case, input.as_slice(), &wanted)?;
             println!(rt; "{}: {count} reads agree", case.name())?;

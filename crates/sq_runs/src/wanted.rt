@@ -1,5 +1,6 @@
 //! What a case has to bring, as its files say.
 use crate::play::Outcome;
+use sq_top::Status;
 use std::alloc::Global;
 use std::rt::Files;
 use std::{fs, io};
@@ -15,9 +16,14 @@ pub struct Wanted {
 impl Wanted {
     /// Whether a run brought this.
     pub fn agrees(&self, outcome: &Outcome) -> bool {
-        outcome.status.code() == self.status
-            && outcome.out.taken() == self.output.as_slice()
-            && outcome.err.taken() == self.errors.as_slice()
+        self.is(outcome.status, outcome.out.taken(), outcome.err.taken())
+    }
+
+    /// Whether a run that brought this status and these bytes brought it.
+    pub fn is(&self, status: Status, output: &[u8], errors: &[u8]) -> bool {
+        status.code() == self.status
+            && output == self.output.as_slice()
+            && errors == self.errors.as_slice()
     }
 }
 

@@ -1,6 +1,7 @@
 //! The program as one call, and the run that it makes.
 ghost use Rattle.std.specs.Prelude.{◌≡◌, ◌≢◌, ◌↔◌, ◌≤◌, ◌^◌, []};
-ghost use Rattle.sq_top.specs.Statuses.{HandsBack, Ran, Told, seen};
+ghost use Rattle.sq_ticks.specs.Seen.{seen};
+ghost use Rattle.sq_top.specs.Statuses.{HandsBack, Ran, Told};
 
 use crate::session::run_input;
 use crate::statuses::Status;
@@ -50,8 +51,9 @@ pub fn top<R: Threads + Sync, S: Source, K: Sink, E: Sink, G: Gate>(
 /// each tick to `out`: at `Done` and `DoneWithRefusals` exactly `output` of the program and of the bytes that the input
 /// held, however they came in pieces and whatever `workers` is.
 ///
-/// An input of more than `limit` bytes is `TooLong`: then exactly `limit` + 1 bytes were read, and never more. If the status
-/// tells of a fault, its one line goes to `err`. If a write to `err` fails, that fault is passed over, and `err` holds a
+/// It works as the bytes come: a tick is written once its commit line was read, before more is read. If a read fails, or the input
+/// has more than `limit` bytes, `out` has exactly the output of the bytes up to the end of the last commit line; of too long an input
+/// the first `limit` bytes count, exactly one more is read, and the answer is `TooLong`. If the status tells of a fault, its one line goes to `err`. If a write to `err` fails, that fault is passed over, and `err` holds a
 /// prefix of the line. `NoMemory` says that memory ran out. The gate is not called yet.
 ///
 /// At `Done` and `DoneWithRefusals`, and only then, the engine is handed back: it has started, its circuit stands for the program, it has

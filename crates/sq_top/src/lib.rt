@@ -4,16 +4,8 @@
 #![tactic(auto)]
 
 mod calls;
-mod judge;
-pub mod laws;
-mod lines;
-mod play;
-mod read;
-mod relations;
-mod run;
 mod session;
 mod statuses;
-mod tick;
 
 pub use calls::{Served, serve, top};
 pub use statuses::Status;

@@ -1,18 +1,25 @@
 //! What a run makes of its input: it is read, its program is judged, and its change lines are played.
-ghost use Rattle.std.specs.Prelude.{◌≡◌, ◌≢◌, ◌⊎◌, ◌≤◌, ◌^◌, length, Some, None, if◌then◌else◌};
+ghost use Rattle.std.specs.Prelude.{◌≡◌, ◌+◌, ◌++◌, ◌<◌, ◌≤◌, ◌^◌, ℕ, List, [], length, false, None, IfOk, IfErr, if◌then◌else◌};
 ghost use Rattle.std.specs.Io.KnownBytes.{Appends};
 ghost use Rattle.sq_base.specs.Causes.{Rose};
+ghost use Rattle.sq_lines.specs.Cutting.{lines_of};
+ghost use Rattle.sq_ticks.specs.Begun.{IsEnded, IsOpen};
+ghost use Rattle.sq_top.specs.Found.{IsFound, IsUnfound, HasFront, front_of};
+ghost use Rattle.sq_ticks.specs.Judgements.{Starts};
+ghost use Rattle.sq_ticks.specs.Lines.{has_end_line};
 ghost use Rattle.sq_top.specs.Prefixes.{TakesPrefix};
-ghost use Rattle.sq_top.specs.Statuses.{ending_line, engine_of, HandsBack, IsRead, Reads, Judges, Writes, Names, Refuses, status_of};
+ghost use Rattle.sq_ticks.specs.Programs.{HasFault, IsProgram, Stops};
+ghost use Rattle.sq_ticks.specs.Seen.{seen};
+ghost use Rattle.sq_top.specs.Statuses.{ending_line, ending_of, engine_of, EndsAfterAll, EndsAs, EndsBehind, Refuses, status_of};
 
 use crate::calls::Served;
-use crate::judge::{JudgeStop, judge};
-use crate::play::{Played, play_lines};
-use crate::read::{ReadStop, read_all};
-use crate::run::Stop;
 use crate::statuses::{Status, put_line};
 use sq_base::{Sink, Source};
 use sq_print::{ProgramFault, fault_text};
+use sq_ticks::{
+    JudgeStop, Judged, LONGEST_TEXT, PIECE, Played, Stop, Text, judge_text, play_lines, play_none,
+    read_piece,
+};
 use sq_value::NoMemory;
 use std::alloc::Global;
 
@@ -76,7 +83,19 @@ fn unserved(status: Status) -> Served
     }
 }
 
-/// Reads the input whole, judges its program, and plays its change lines, with an engine for so many workers.
+/// What the reading of a program text finds.
+#[derive(Clone, Copy, Debug, PartialEq, Eq)]
+pub enum Found {
+    /// The end line. The change lines begin with the bytes of the buffer in this range.
+    EndLine { from: usize, to: usize },
+    /// The end of the input, and no line end behind an end line.
+    EndOfInput,
+    /// The text is surely too long.
+    TooLong,
+}
+
+/// Reads the program text, judges it as soon as that can be done, and plays the change lines as they come, with an engine for so
+/// many workers.
 pub fn run_input<S: Source, K: Sink>(
     alloc: Global,
     input: &mut S,
@@ -86,44 +105,140 @@ pub fn run_input<S: Source, K: Sink>(
 ) -> Ending
     requires workers { (1 ≤ workers) × (workers ≤ 64) }
     requires limit { limit ≤ 2 ^ 40 }
-    ensures input { Reads limit (S.left input.old) (S.left input.new)
-        (S.faults input.old) (S.faults input.new) (status_of result) }
-    ensures judged { Judges (S.left input.old) (status_of result) }
-    ensures output { Writes (S.left input.old) (K.taken out.old) (K.taken out.new)
-        (K.faults out.old) (K.faults out.new) (status_of result) }
-    ensures names { Names (S.left input.old) result }
-    ensures engine { HandsBack workers (S.left input.old) (status_of result) (engine_of result) }
-    ensures no_usage { status_of result ≢ Status.Usage }
+    ensures { EndsAs limit workers (seen (S.left input.old) (S.faults input.old)) (seen (S.left input.new) (S.faults input.new))
+        (seen (K.taken out.old) (K.faults out.old)) (seen (K.taken out.new) (K.faults out.new)) result }
 {
-    match read_all(alloc, input, limit) {
-        Ok(bytes) => answer(alloc, &bytes, out, workers),
-        Err(ReadStop::Failed) => Ending::Ends(Status::ReadFault),
-        Err(ReadStop::TooLong) => Ending::Ends(Status::TooLong),
-        Err(ReadStop::Memory) => Ending::Ends(Status::NoMemory),
+    let mut text = Text::new(alloc);
+    let mut buffer = [0; PIECE];
+    match read_text(input, limit, &mut text, &mut buffer) {
+        Ok(Found::EndLine { from, to }) => serve_lines(
+            alloc,
+            &text,
+            &buffer[from..to],
+            input,
+            out,
+            workers,
+            limit,
+        ),
+        Ok(Found::EndOfInput) => serve_text(alloc, &text, out, workers),
+        Ok(Found::TooLong) => refuse(alloc, &ProgramFault::TextTooLong),
+        Err(stop) => stopped(stop),
     }
 }
 
-// Judges the program of a whole input, and plays its change lines.
-fn answer<K: Sink>(alloc: Global, input: &[u8], out: &mut K, workers: u32) -> Ending
-    requires workers { (1 ≤ workers) × (workers ≤ 64) }
-    requires short { length input.now ≤ 2 ^ 40 }
-    ensures judged { Judges (Some input.now) (status_of result) }
-    ensures output { Writes (Some input.now) (K.taken out.old) (K.taken out.new)
-        (K.faults out.old) (K.faults out.new) (status_of result) }
-    ensures names { Names (Some input.now) result }
-    ensures engine { HandsBack workers (Some input.now) (status_of result) (engine_of result) }
-    ensures read { IsRead (status_of result) ⊎ (status_of result ≡ Status.NoMemory) }
+// Reads until the program can be judged.
+fn read_text<S: Source>(
+    input: &mut S,
+    limit: u64,
+    text: &mut Text,
+    buffer: &mut [u8],
+) -> Result<Found, Stop>
+    requires limit { limit ≤ 2 ^ 40 }
+    requires fresh { (text.old.bytes.items ≡ []) × IsOpen text.old.bytes.items text.old.line }
+    requires room { 0 < length buffer.old }
+    ensures found { IfOk result (IsFound limit (seen (S.left input.old) (S.faults input.old)) (seen (S.left input.new) (S.faults input.new)) text.new buffer.new) }
+    ensures stopped { IfErr result (IsUnfound limit (seen (S.left input.old) (S.faults input.old)) (seen (S.left input.new) (S.faults input.new))) }
+    ensures later { S.faults input.old ≤ S.faults input.new }
 {
-    let (judged, lines) = match judge(alloc, input, workers) {
-        Ok(accepted) => accepted,
+    loop {
+        let count = read_piece(input, text.bytes.len() as u64, limit, buffer)?;
+        if count == 0 {
+            return Ok(Found::EndOfInput);
+        }
+        if let Some(from) = text.take(&buffer[..count])? {
+            return Ok(Found::EndLine { from, to: count });
+        }
+        if text.surely_before() > LONGEST_TEXT {
+            return Ok(Found::TooLong);
+        }
+    }
+}
+
+// Judges a text that its end line ended, and plays the change lines, of which the first bytes are there.
+fn serve_lines<S: Source, K: Sink>(
+    alloc: Global,
+    text: &Text,
+    first: &[u8],
+    input: &mut S,
+    out: &mut K,
+    workers: u32,
+    limit: u64,
+) -> Ending
+    requires workers { (1 ≤ workers) × (workers ≤ 64) }
+    requires limit { (length text.now.bytes.items + 1 + length first.now ≤ limit) × (limit ≤ 2 ^ 40) }
+    requires ended { IsEnded text.now.bytes.items text.now.line }
+    ensures { EndsBehind limit workers (front_of text.now ++ first.now) (S.left input.old) (S.faults input.old) (S.left input.new) (S.faults input.new)
+        (K.taken out.old) (K.faults out.old) (K.taken out.new) (K.faults out.new) result }
+{
+    let judged = match judge_front(alloc, text, workers) {
+        Ok(judged) => judged,
         Err(JudgeStop::Fault(fault)) => return refuse(alloc, &fault),
         Err(JudgeStop::Memory) => return Ending::Ends(Status::NoMemory),
     };
-    match play_lines(alloc, judged, lines, out) {
+    let taken = (text.bytes.len() + 1 + first.len()) as u64;
+    match play_lines(alloc, judged, first, input, taken, limit, out) {
         Ok(played) => Ending::Finished(played),
-        Err(Stop::Write) => Ending::Ends(Status::WriteFault),
-        Err(Stop::Memory) => Ending::Ends(Status::NoMemory),
+        Err(stop) => stopped(stop),
     }
+}
+
+// Judges a text behind which the input has ended. Its last line may be the end line, and then there are no change lines.
+fn serve_text<K: Sink>(alloc: Global, text: &Text, out: &mut K, workers: u32) -> Ending
+    requires workers { (1 ≤ workers) × (workers ≤ 64) }
+    requires so_far { IsOpen text.now.bytes.items text.now.line }
+    ensures { EndsAfterAll workers text.now.bytes.items (seen (K.taken out.old) (K.faults out.old)) (seen (K.taken out.new) (K.faults out.new)) result }
+{
+    if !text.is_at_end_line() {
+        return refuse(alloc, &without_end(text));
+    }
+    let judged = match judge_front(alloc, text, workers) {
+        Ok(judged) => judged,
+        Err(JudgeStop::Fault(fault)) => return refuse(alloc, &fault),
+        Err(JudgeStop::Memory) => return Ending::Ends(Status::NoMemory),
+    };
+    match play_none(alloc, judged, out) {
+        Ok(played) => Ending::Finished(played),
+        Err(stop) => stopped(stop),
+    }
+}
+
+// The fault of an input without an end line.
+fn without_end(text: &Text) -> ProgramFault
+    requires { has_end_line (lines_of text.now.bytes.items) ≡ false }
+    ensures { HasFault text.now.bytes.items result }
+{
+    if text.bytes.len() > LONGEST_TEXT {
+        ProgramFault::TextTooLong
+    } else {
+        ProgramFault::NoEnd
+    }
+}
+
+// The program of each input whose text is this one before its last line, or the first fault of it.
+fn judge_front(alloc: Global, text: &Text, workers: u32) -> Result<Judged, JudgeStop>
+    requires workers { (1 ≤ workers) × (workers ≤ 64) }
+    requires so_far { IsOpen text.now.bytes.items text.now.line }
+    ensures accepted { IfOk result (λ j. (input : List ℕ) → HasFront input text.now → IsProgram input j.program) }
+    ensures starts { IfOk result (Starts workers) }
+    ensures refused { IfErr result (λ stop. (input : List ℕ) → HasFront input text.now → Stops input stop) }
+{
+    let front = text.before_last_line();
+    if front.len() > LONGEST_TEXT {
+        return Err(JudgeStop::Fault(ProgramFault::TextTooLong));
+    }
+    judge_text(alloc, front, workers)
+}
+
+// The ending of a run that stopped.
+fn stopped(stop: Stop) -> Ending
+    ensures { result ≡ ending_of stop }
+{
+    Ending::Ends(match stop {
+        Stop::Memory => Status::NoMemory,
+        Stop::Read => Status::ReadFault,
+        Stop::TooLong => Status::TooLong,
+        Stop::Write => Status::WriteFault,
+    })
 }
 
 // The ending of a program with this fault.

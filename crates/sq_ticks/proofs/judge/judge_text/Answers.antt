@@ -1,0 +1,28 @@
+use Rattle.std.proofs.lemmas.Result.{err_from_is_err_and, IfErr-weaker, IfOk-weaker}
+use Rattle.std.proofs.Common.{subst, sym}
+use Rattle.sq_token.specs.Reading.{Tokens}
+use Rattle.sq_ticks.specs.Programs.{TextFault}
+use Rattle.sq_ticks.proofs.Judging.{lex_stops, tokens_stop, untrue, istrue}
+use Rattle.sq_ticks.proofs.judge.judge_text.Goals as goal
+
+pub returns-then-not-is_utf8-clause-refused : goal.returns-then-not-is_utf8-clause-refused
+returns-then-not-is_utf8-clause-refused c = TextFault.not_utf8 (untrue c.is_utf8.result c.is_utf8.ensures c.if-not-is_utf8.true)
+
+pub returns-in_err-tokens-clause-refused : goal.returns-in_err-tokens-clause-refused
+returns-in_err-tokens-clause-refused c =
+    let p = err_from_is_err_and c.from_residual.result c.from_residual.ensures.1 in
+    rw (p.1, p.2) (lex_stops c.args.text.now c.in_err-tokens.field-0.0 (istrue c.is_utf8.result c.is_utf8.ensures c.if-not-is_utf8.false) c.in_err-tokens.ensures.refused)
+
+pub returns-clause-refused : goal.returns-clause-refused
+returns-clause-refused c =
+    IfErr-weaker c.judge_tokens.result _ _
+    (λ stop wrong. tokens_stop c.args.text.now c.deref.result.now stop (istrue c.is_utf8.result c.is_utf8.ensures c.if-not-is_utf8.false)
+    (subst (Tokens c.args.text.now) (sym c.deref.ensures.value) c.in_ok-tokens.ensures.found) wrong)
+    c.judge_tokens.ensures.refused
+
+pub returns-clause-accepted : goal.returns-clause-accepted
+returns-clause-accepted c =
+    IfOk-weaker c.judge_tokens.result _ _
+    (λ j means input is_text. means input c.args.text.now is_text (istrue c.is_utf8.result c.is_utf8.ensures c.if-not-is_utf8.false)
+    (subst (Tokens c.args.text.now) (sym c.deref.ensures.value) c.in_ok-tokens.ensures.found))
+    c.judge_tokens.ensures.accepted

@@ -1,0 +1,15 @@
+pub mod Lines
+pub mod Relations
+pub mod Fits
+pub mod Ticks
+pub mod Texts
+pub mod Output
+pub mod Updates
+pub mod Programs
+pub mod Judgements
+pub mod Over
+pub mod Runs
+pub mod Sums
+pub mod Begun
+pub mod Seen
+pub mod Played
