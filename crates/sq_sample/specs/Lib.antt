@@ -1,0 +1,4 @@
+pub mod Numbers
+pub mod Ticks
+pub mod Kept
+pub mod Accepted

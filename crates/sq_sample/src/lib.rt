@@ -1,0 +1,17 @@
+//! The sample: a program of its own, and the ticks that it is run with, drawn by a generator of numbers.
+#![tactic(auto)]
+
+mod generator;
+pub mod laws;
+mod program;
+mod ticks;
+
+pub use program::PROGRAM;
+pub use ticks::SampleTicks;
+
+fn is_send_and_sync<T: Send + Sync>() {}
+
+// A sample may be handed to another thread, and be shared.
+fn data_crosses_threads() {
+    is_send_and_sync::<SampleTicks>();
+}
