@@ -174,12 +174,7 @@ fn end<K: Sink>(
 }
 
 // Ends the run behind the last line.
-fn finish<K: Sink>(
-    alloc: Global,
-    program: &Program,
-    run: Run,
-    out: &mut K,
-) -> Result<Played, Stop>
+fn finish<K: Sink>(alloc: Global, program: &Program, run: Run, out: &mut K) -> Result<Played, Stop>
     ensures refused { WhereBehind program.now (K.taken out.old) (K.faults out.old) run
         (λ lines from. IfOk result (λ played. played.refused ≡ list_any (λ r. is_refusal r.1) (reports_of program.now lines))) }
     ensures engine { WhereBehind program.now (K.taken out.old) (K.faults out.old) run
