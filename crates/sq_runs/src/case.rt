@@ -66,7 +66,8 @@ impl<'a> Case<'a> {
         numbers(alloc, self.field(9))
     }
 
-    /// `each read` or `each write`, if the run is to be made once for each call that can fail.
+    /// `each read` or `each write`, if the run is to be made once for each call that can fail; `each cutting`, if once for each cutting
+    /// of the input in two pieces; `each byte`, if what was printed is to be looked at before each byte.
     pub fn each(self) -> &'a str {
         self.field(10)
     }

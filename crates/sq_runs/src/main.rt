@@ -7,6 +7,7 @@ mod cut;
 mod each_call;
 mod play;
 mod wanted;
+mod watched;
 
 use case::Case;
 use each_call::{count_failing_reads, count_failing_writes};
@@ -16,6 +17,7 @@ use std::fs;
 use std::rt::Files;
 use std::thread::Threads;
 use wanted::{Wanted, read_wanted};
+use watched::{count_bytes_in_time, count_cuttings};
 
 fn main(rt: HostRuntime) -> anyhow::Result<()> {
     let table = fs::read_to_string(&rt, "cases.csv")?;
@@ -42,6 +44,14 @@ fn run_case<R: Threads + Sync + Files + AllocGlobal + Print>(
         "each write" => {
             let count = count_failing_writes(rt, alloc, case, input.as_slice(), &wanted)?;
             println!(rt; "{}: {count} writes agree", case.name())?;
+        }
+        "each cutting" => {
+            let count = count_cuttings(rt, alloc, input.as_slice(), &wanted)?;
+            println!(rt; "{}: {count} cuttings agree", case.name())?;
+        }
+        "each byte" => {
+            let count = count_bytes_in_time(rt, alloc, input.as_slice(), &wanted)?;
+            println!(rt; "{}: {count} bytes agree", case.name())?;
         }
         _ => {
             let outcome = play(rt, alloc, case, input.as_slice())?;

@@ -1,0 +1,3 @@
+mod Sources
+mod Tables
+mod Starting
