@@ -106,7 +106,16 @@ pub fn count_cuttings<R: Threads + Sync>(
         };
         let mut out = sink(alloc)?;
         let mut err = sink(alloc)?;
-        let served = serve(rt, alloc, &mut source, &mut out, &mut err, &FreeGate, 1, LONGEST_INPUT);
+        let served = serve(
+            rt,
+            alloc,
+            &mut source,
+            &mut out,
+            &mut err,
+            &FreeGate,
+            1,
+            LONGEST_INPUT,
+        );
         if !wanted.is(served.status, out.taken(), err.taken()) {
             bail!("cut at {first} it differs");
         }
@@ -136,7 +145,16 @@ pub fn count_bytes_in_time<R: Threads + Sync>(
         printed,
     };
     let mut err = sink(alloc)?;
-    let served = serve(rt, alloc, &mut source, &mut out, &mut err, &FreeGate, 1, LONGEST_INPUT);
+    let served = serve(
+        rt,
+        alloc,
+        &mut source,
+        &mut out,
+        &mut err,
+        &FreeGate,
+        1,
+        LONGEST_INPUT,
+    );
     if !wanted.is(served.status, out.sink.taken(), err.taken()) {
         bail!("it differs");
     }
@@ -168,7 +186,16 @@ fn printed_bytes<R: Threads + Sync>(rt: &R, alloc: Global, input: &[u8]) -> anyh
     let mut source = MemSource::new(bytes, LONGEST_PIECE, Vec::new(alloc));
     let mut out = sink(alloc)?;
     let mut err = sink(alloc)?;
-    serve(rt, alloc, &mut source, &mut out, &mut err, &FreeGate, 1, LONGEST_INPUT);
+    serve(
+        rt,
+        alloc,
+        &mut source,
+        &mut out,
+        &mut err,
+        &FreeGate,
+        1,
+        LONGEST_INPUT,
+    );
     Ok(out.taken().len() as u64)
 }
 
