@@ -1,0 +1,5 @@
+mod Closing
+mod Putting
+mod Settling
+mod Standing
+mod Tables
