@@ -1,25 +1,25 @@
 -- A run behind some lines, whatever lines come after them.
-use Rattle.std.specs.Prelude.{◌||◌, OnOk, Result, Ok, Err, cond, map}
-use Rattle.std.specs.List.{enumerate_from, list_any}
-use Rattle.std.specs.Io.KnownBytes.{Appends, Keeps}
-use Rattle.std.proofs.Common.{◌≡◌, ℕ, suc, ◌+◌, ◌^◌, ◌<◌, ◌≤◌, List, [], ◌∷◌, ◌++◌, length, Bool, true, false, Option, refl, sym, ap, ap₂, subst, ◌∙◌, arith, append-nil, append_assoc, length-append}
+use Rattle.std.specs.Prelude.{◌||◌, OnOk, Result, Ok, Err}
+use Rattle.std.specs.List.{list_any}
+use Rattle.std.specs.Io.KnownBytes.{Appends}
+use Rattle.std.proofs.Common.{◌≡◌, ℕ, suc, ◌+◌, ◌^◌, ◌<◌, ◌≤◌, List, [], ◌∷◌, ◌++◌, length, Bool, true, false, Option, refl, sym, ap, subst, ◌∙◌, arith, append-nil, append_assoc, length-append}
 use Rattle.std.proofs.lemmas.List.Folds.{list_any-append}
 use Rattle.sq_engine.specs.Engines.{State}
 use Rattle.sq_lines.specs.Cutting.{Cutting, answer, cut_after, ended, fed, last_line, lines_of, raw_lines}
-use Rattle.sq_lines.specs.Lines.{decoded, is_commit}
+use Rattle.sq_lines.specs.Lines.{is_commit}
 use Rattle.sq_lines.specs.declared.line.Line.{Line}
 use Rattle.sq_lines.specs.declared.line.RawLine.{RawLine}
 use Rattle.sq_lines.proofs.PieceLemmas.{fed_after, raw_after, raw_last}
 use Rattle.sq_lines.proofs.Saying.{raw_lines_say}
 use Rattle.sq_typed.specs.Tables.{Tables}
-use Rattle.sq_typed.specs.Views.{Meant, shown}
+use Rattle.sq_typed.specs.Views.{Meant}
 use Rattle.sq_ticks.specs.Judgements.{first_text}
 use Rattle.sq_ticks.specs.Lines.{up_to_last}
-use Rattle.sq_ticks.specs.Output.{reports, reports_of, texts_from}
-use Rattle.sq_ticks.specs.Relations.{empty_tables}
-use Rattle.sq_ticks.specs.Runs.{From, Goes, IsBehind, IsFar, IsStart, Stopped, StoppedWithin, StopsWithin, brought, ended_lines, in_front, said, said_line, still}
+use Rattle.sq_ticks.specs.Output.{reports_of, texts_from}
+use Rattle.sq_compile.specs.Relations.{empty_tables}
+use Rattle.sq_ticks.specs.Runs.{From, Goes, IsBehind, IsFar, IsStart, Stopped, StoppedWithin, StopsWithin, brought, ended_lines, said, said_line, still}
 use Rattle.sq_ticks.specs.Sums.{tables_now}
-use Rattle.sq_ticks.specs.Ticks.{Report, accepted, is_refusal, lines_from, outcome, reports_from, tables_after, ticks_of}
+use Rattle.sq_ticks.specs.Ticks.{accepted, is_refusal, lines_from, outcome, tables_after, ticks_of}
 use Rattle.sq_ticks.specs.declared.run.Run.{Run}
 use Rattle.sq_ticks.specs.declared.run.Stop.{Stop}
 use Rattle.sq_ticks.specs.declared.run.Stop.TheVariants.{Memory}

@@ -6,27 +6,25 @@ use Rattle.std.specs.Io.KnownBytes.{Appends, Keeps}
 use Rattle.std.proofs.lemmas.List.Folds.{list_any-append}
 use Rattle.std.proofs.Math.Seq.{take-append_seam, take-append-add}
 use Rattle.std.proofs.lemmas.List.{take-append-le}
-use Rattle.sq_engine.specs.Engines.{State}
-use Rattle.sq_lines.specs.Lines.{decoded, is_blank, is_commit}
+use Rattle.sq_lines.specs.Lines.{is_blank, is_commit}
 use Rattle.sq_lines.specs.declared.line.Line.{Line}
 use Rattle.sq_typed.specs.Views.{shown}
 use Rattle.sq_typed.specs.Tables.{Tables}
 use Rattle.sq_typed.specs.Views.{Meant}
 use Rattle.sq_print.specs.declared.refusal.Refusal.TheVariants.{Unfinished}
-use Rattle.sq_ticks.proofs.Reports.{still_begins, still_end, some_ticks}
+use Rattle.sq_ticks.proofs.Reports.{still_begins, still_end}
 use Rattle.sq_ticks.specs.declared.play.Played.{Played}
 use Rattle.sq_ticks.specs.declared.run.Run.{Run}
 use Rattle.sq_ticks.specs.declared.run.Stop.{Stop}
 use Rattle.sq_ticks.specs.declared.run.Stop.TheVariants.{Memory, Read, TooLong, Write}
 use Rattle.sq_ticks.specs.Judgements.{first_text}
 use Rattle.sq_ticks.specs.Over.{IsOver}
-use Rattle.sq_lines.specs.Cutting.{lines_of}
-use Rattle.sq_ticks.specs.Relations.{empty_tables}
+use Rattle.sq_compile.specs.Relations.{empty_tables}
 use Rattle.sq_ticks.specs.Sums.{tables_now}
-use Rattle.sq_ticks.specs.Ticks.{Report, accepted, refused, outcome, is_refusal, lines_from, reports_from, tables_after, ticks_of}
+use Rattle.sq_ticks.specs.Ticks.{Report, refused, outcome, is_refusal, lines_from, reports_from, tables_after, ticks_of}
 use Rattle.sq_ticks.specs.Texts.{tick_text}
 use Rattle.sq_ticks.specs.Output.{reports, texts_from}
-use Rattle.sq_ticks.specs.Runs.{in_front, still, brought, Goes, IsAt, IsEnded, IsLeft, IsStart, Stopped, StoppedWithin}
+use Rattle.sq_ticks.specs.Runs.{in_front, still, brought, IsAt, IsEnded, IsLeft, Stopped, StoppedWithin}
 
 pub appends_chain : (x y z : Option (List ℕ)) (a b : List ℕ) → Appends x y a → Appends y z b → Appends x z (a ++ b)
 appends_chain None y z a b p q = tt

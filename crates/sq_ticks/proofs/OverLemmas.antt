@@ -1,17 +1,16 @@
 -- An engine and the lists of rows that it stands for: how it begins, and what is told of its changes.
 use Rattle.std.proofs.Common.{◌≡◌, ℕ, zero, suc, ◌+◌, ◌<◌, ◌≤◌, true, false, List, [], ◌∷◌, ◌++◌, length, map, ℤ, pos, Some, refl, sym, ap, ap₂, subst, ◌∙◌, arith}
 use Rattle.std.specs.Prelude.{slice_get, if◌then◌else◌}
-use Rattle.std.specs.List.{cons_option, enumerate_from, flat_map, zip}
+use Rattle.std.specs.List.{enumerate_from, flat_map, zip}
 use mathlib.Core.Logic.{◌⊎◌, inl, inr}
 use Rattle.std.proofs.lemmas.Bool.{cases_lt}
 use borrow.Author.Differences.{ints}
 use Rattle.sq_value.specs.Order.{row_cmp}
 use Rattle.sq_algebra.specs.ZSet.{entries, entries-zero, minus, of_list, weight}
-use Rattle.sq_zset.proofs.Rows.{entries_change, same_weights, weight-minus, weight-of_list, weight-zero}
+use Rattle.sq_zset.proofs.Rows.{entries_change, same_weights, weight-minus, weight-of_list}
 use Rattle.sq_bridge.specs.Rows.{listed}
-use Rattle.sq_catalog.specs.Sorts.{is_printed, is_table, tables_of, views_of}
+use Rattle.sq_catalog.specs.Sorts.{is_printed, tables_of, views_of}
 use Rattle.sq_catalog.specs.declared.relation.Relation.{Relation}
-use Rattle.sq_catalog.specs.declared.relation.RelationKind.TheVariants.{Table, View}
 use Rattle.sq_circuit.specs.Circuits as circuits
 use Rattle.sq_circuit.specs.Circuits.{table_at, whole}
 use Rattle.sq_circuit.specs.Invariant.{is_view, table_count, view_count}
@@ -21,7 +20,7 @@ use Rattle.sq_circuit.proofs.Alongside.{each-length}
 use Rattle.sq_engine.specs.Admitting.{in_z_sets}
 use Rattle.sq_engine.specs.Engines.{State, begun, no_tables, view_node, views_between, views_over}
 use Rattle.sq_engine.proofs.Listing.{each_got, each_past, none_past, same_tables}
-use Rattle.sq_plan.specs.Program.{IsPlanOf, if_table, table_kinds}
+use Rattle.sq_plan.specs.Program.{IsPlanOf}
 use Rattle.sq_print.specs.Texts as told
 use Rattle.sq_print.specs.Texts.{told_block}
 use Rattle.sq_typed.specs.Fit.{TablesAreOfKinds, kinds_of}
@@ -30,34 +29,12 @@ use Rattle.sq_typed.specs.Laws.{rows_in}
 use Rattle.sq_typed.specs.Tables.{Tables}
 use Rattle.sq_typed.specs.Views.{Meant, shown, views}
 use Rattle.sq_ticks.specs.Over.{IsOver}
-use Rattle.sq_ticks.specs.Programs.{empty_verdict}
-use Rattle.sq_ticks.specs.Relations.{empty_tables}
+use Rattle.sq_compile.specs.Programs.{empty_verdict}
+use Rattle.sq_compile.specs.Relations.{empty_tables}
 use Rattle.sq_ticks.specs.Texts.{change_text, changes, view_text}
-use Rattle.sq_ticks.proofs.TableLemmas.{kinds_empty}
-
--- ---- the tables of the circuit and of the program
-
-pub many_mapped : {A B : Type 0} (f : A → B) (xs : List A) → length (map f xs) ≡ length xs
-many_mapped f [] = refl
-many_mapped f (x ∷ xs) = ap suc (many_mapped f xs)
-
-pub kinds_by_table : (rs : List Relation) → table_kinds rs ≡ map kinds_of (tables_of rs)
-kinds_by_table [] = refl
-kinds_by_table (r ∷ rs) =
-    elim r.kind as (λ k. cons_option (if_table k (kinds_of r)) (table_kinds rs) ≡ map kinds_of (if is_table k then r ∷ tables_of rs else tables_of rs)) [
-      | Table ↦ ap (λ ks. kinds_of r ∷ ks) (kinds_by_table rs)
-      | View printed ↦ kinds_by_table rs
-    ]
+use Rattle.sq_compile.proofs.EmptyTables.{kinds_by_table, kinds_empty, many_mapped, none_in}
 
 -- ---- tables without rows
-
-pub none_is : none ≡ listed []
-none_is = same_weights none (listed []) (λ row. weight-zero row ∙ sym (weight-of_list row []))
-
-none_in : (rs : List Relation) (t : ℕ) → table_at (in_z_sets (map (λ (r : Relation). []) rs)) t ≡ none
-none_in [] t = refl
-none_in (r ∷ rs) zero = sym none_is
-none_in (r ∷ rs) (suc t) = none_in rs t
 
 pub no_tables_are : (p : Meant) (c : List Part) → IsPlanOf p c → no_tables c ≡ in_z_sets (empty_tables p.catalog)
 no_tables_are p c plan =

@@ -14,7 +14,7 @@ use Rattle.sq_value.specs.Count.{count}
 use Rattle.sq_print.specs.declared.refusal.Refusal.TheVariants.{Unfinished}
 use Rattle.sq_ticks.proofs.ChangeLemmas.{told_rise}
 use Rattle.sq_ticks.specs.Output.{reports}
-use Rattle.sq_ticks.specs.Relations.{empty_tables}
+use Rattle.sq_compile.specs.Relations.{empty_tables}
 use Rattle.sq_ticks.specs.Sums.{printed, printed_sum, tables_now}
 use Rattle.sq_ticks.specs.Ticks.{Report, Outcome, accepted, refused, outcome, tables_after, lines_from, ticks_of, reports_from}
 

@@ -6,7 +6,6 @@ use Rattle.std.specs.Ordering.{is_eq}
 use Rattle.std.proofs.lemmas.List.{get_or_default}
 use Rattle.std.proofs.lemmas.Option.{same_Some}
 use Rattle.sq_catalog.specs.declared.relation.Relation.{Relation}
-use Rattle.sq_catalog.specs.declared.relation.RelationKind.{RelationKind}
 use Rattle.sq_catalog.specs.declared.relation.RelationKind.TheVariants.{Table, View}
 use Rattle.sq_expr.specs.Kinds.{AreOfKinds}
 use Rattle.sq_expr.proofs.Lists.{all_append}
@@ -25,18 +24,6 @@ use Rattle.sq_typed.proofs.Tests.{mapped_some}
 use Rattle.sq_value.specs.Order.{row_cmp}
 use Rattle.sq_lines.specs.Fit.{UpdateFits, LineFits}
 use Rattle.sq_ticks.specs.Fits.{Fits}
-use Rattle.sq_ticks.specs.Relations.{empty_tables}
-
--- ---- empty tables
-
-empty_at_kind : (r : Relation) (rs : List Relation) (k : RelationKind) → r.kind ≡ k → TablesAreOfKinds (empty_tables rs) rs
-    → TablesAreOfKinds (empty_tables (r ∷ rs)) (r ∷ rs)
-empty_at_kind r rs Table e rest = rw e (tt, rest)
-empty_at_kind r rs (View printed) e rest = rw e rest
-
-pub kinds_empty : (relations : List Relation) → TablesAreOfKinds (empty_tables relations) relations
-kinds_empty [] = tt
-kinds_empty (r ∷ rs) = empty_at_kind r rs r.kind refl (kinds_empty rs)
 
 -- ---- an update of one table
 

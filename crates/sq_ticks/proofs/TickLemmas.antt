@@ -35,11 +35,12 @@ use Rattle.sq_typed.proofs.Tests.{mapped_some}
 use Rattle.sq_typed.proofs.UpdateLemmas.{as_many_after}
 use Rattle.sq_ticks.specs.Fits.{Fits}
 use Rattle.sq_ticks.specs.Over.{HasRoom, IsAccepted, IsOver, first_bad, outcome_by, updates_in_front}
-use Rattle.sq_ticks.specs.Relations.{empty_tables, view_name}
+use Rattle.sq_compile.specs.Relations.{empty_tables, view_name}
 use Rattle.sq_ticks.specs.Ticks.{after_update, ended, outcome, refused}
 use Rattle.sq_ticks.specs.Updates.{updates_of}
 use Rattle.sq_print.specs.declared.refusal.Refusal.TheVariants.{Absent, Malformed, Range}
-use Rattle.sq_ticks.proofs.OverLemmas.{block_told, kinds_by_table, many_mapped, none_is}
+use Rattle.sq_compile.proofs.EmptyTables.{kinds_by_table, many_mapped, none_is}
+use Rattle.sq_ticks.proofs.OverLemmas.{block_told}
 use Rattle.sq_ticks.proofs.TableLemmas.{kinds_updated}
 
 -- ---- the lines of a tick

@@ -1,15 +1,11 @@
 -- What the judgement of a program hands on.
-use Rattle.std.specs.Prelude.{◌≡◌, ℕ, List, [], Some, None, ⊤}
+use Rattle.std.specs.Prelude.{◌≡◌, ℕ, List, []}
 use Rattle.sq_engine.specs.Engines.{no_tables, views_over}
 use Rattle.sq_typed.specs.Views.{Meant, shown}
 use Rattle.sq_ticks.specs.Over.{IsOver}
-use Rattle.sq_ticks.specs.Programs.{empty_verdict}
-use Rattle.sq_ticks.specs.Relations.{empty_tables, view_name}
+use Rattle.sq_compile.specs.Relations.{empty_tables}
 use Rattle.sq_ticks.specs.Texts.{change_text}
-use Rattle.sq_ticks.specs.declared.judge.JudgeStop.{JudgeStop}
-use Rattle.sq_ticks.specs.declared.judge.JudgeStop.TheVariants.{Fault, Memory}
 use Rattle.sq_ticks.specs.declared.judge.Judged.{Judged}
-use Rattle.sq_print.specs.declared.program_fault.ProgramFault.TheVariants as faults
 
 -- the engine stands for empty tables and has so many shards, and the changes are what its views have over them
 pub record Starts (count : ℕ) (j : Judged) : Type 0 where
@@ -20,13 +16,3 @@ pub record Starts (count : ℕ) (j : Judged) : Type 0 where
 -- block 0
 abbrev pub first_text : Meant → List ℕ
 first_text p = change_text p.catalog [] (shown p (empty_tables p.catalog)) 0
-
--- this program is accepted
-pub record IsJudged (p : Meant) (j : Judged) : Type 0 where
-  pub program : j.program ≡ p
-  pub in_range : empty_verdict p ≡ None
-
--- the program is refused for its first view that is out of range, or memory ran out
-abbrev pub RangeStop : Meant → JudgeStop → Type 0
-RangeStop p (Fault fault) = (view : ℕ) × (empty_verdict p ≡ Some view) × (fault ≡ faults.Range (view_name p.catalog view))
-RangeStop p Memory = ⊤

@@ -1,5 +1,4 @@
 pub mod Lines
-pub mod Relations
 pub mod Fits
 pub mod Ticks
 pub mod Texts

@@ -5,7 +5,7 @@ use Rattle.sq_typed.specs.Views.{Meant}
 use Rattle.sq_lines.specs.Cutting.{lines_of}
 use Rattle.sq_lines.specs.declared.line.Line.{Line}
 use Rattle.sq_ticks.specs.Lines.{lines_after_end}
-use Rattle.sq_ticks.specs.Relations.{empty_tables}
+use Rattle.sq_compile.specs.Relations.{empty_tables}
 use Rattle.sq_ticks.specs.Ticks.{Report, accepted, is_refusal, lines_from, ticks_of, reports_from}
 use Rattle.sq_ticks.specs.Texts.{tick_text}
 

@@ -27,7 +27,7 @@ use Rattle.sq_ticks.specs.Fits.{Fits}
 use Rattle.sq_ticks.specs.Output.{reports_of, texts_from}
 use Rattle.sq_ticks.specs.Lines.{up_to_last}
 use Rattle.sq_ticks.specs.Over.{HasRoom, IsOver}
-use Rattle.sq_ticks.specs.Relations.{empty_tables, view_name}
+use Rattle.sq_compile.specs.Relations.{empty_tables, view_name}
 use Rattle.sq_ticks.specs.Sums.{tables_now}
 use Rattle.sq_ticks.specs.Texts.{change_text, tick_text}
 use Rattle.sq_ticks.specs.Ticks.{Report, accepted, refused, is_refusal, lines_from, outcome, reports_from, tables_after, ticks_of}

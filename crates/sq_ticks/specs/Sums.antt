@@ -8,7 +8,7 @@ use Rattle.sq_typed.specs.Tables.{Tables}
 use Rattle.sq_typed.specs.Views.{Meant}
 use Rattle.sq_ticks.specs.Ticks.{Outcome, Report, accepted, refused, tables_after}
 use Rattle.sq_ticks.specs.Output.{reports}
-use Rattle.sq_ticks.specs.Relations.{empty_tables}
+use Rattle.sq_compile.specs.Relations.{empty_tables}
 use Rattle.sq_ticks.specs.Texts.{changes}
 use Rattle.sq_value.specs.Order.{row_cmp}
 use Rattle.sq_algebra.specs.ZSet.{weight_in}

@@ -9,7 +9,7 @@ use Rattle.sq_typed.specs.Views.{shown}
 use Rattle.sq_typed.specs.From.{Row}
 use Rattle.sq_typed.specs.Tables.{Tables, at_table, changed_rows}
 use Rattle.sq_typed.specs.Views.{Meant, verdict}
-use Rattle.sq_ticks.specs.Relations.{view_name}
+use Rattle.sq_compile.specs.Relations.{view_name}
 use Rattle.sq_print.specs.declared.refusal.Refusal.{Refusal}
 use Rattle.sq_print.specs.declared.refusal.Refusal.TheVariants.{Malformed, Absent, Range, Unfinished}
 

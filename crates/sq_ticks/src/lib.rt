@@ -8,12 +8,11 @@ mod judge;
 pub mod laws;
 mod play;
 mod read;
-mod relations;
 mod run;
 mod text;
 mod tick;
 
-pub use judge::{JudgeStop, Judged, LONGEST_TEXT, judge_text};
+pub use judge::{Judged, judge_text};
 pub use play::{Played, play_lines, play_none};
 pub use read::{PIECE, read_piece};
 pub use run::Stop;
@@ -28,7 +27,6 @@ fn what_was_played_crosses_threads() {
 
 // So may texts, and the causes of a stop.
 fn texts_and_stops_cross_threads() {
-    is_send_and_sync::<JudgeStop>();
     is_send_and_sync::<Stop>();
     is_send_and_sync::<Text>();
 }

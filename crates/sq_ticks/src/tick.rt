@@ -6,9 +6,9 @@ ghost use Rattle.sq_typed.specs.Tables.{Tables};
 ghost use Rattle.sq_ticks.specs.Over.{first_bad as first_bad_lem, updates_in_front as updates_in_front_lem};
 ghost use Rattle.sq_ticks.specs.Runs.{IsEndedBy, IsPlayed, Stands, refuses, told_outcome};
 
-use crate::relations::view_name;
 use sq_catalog::Catalog;
 use sq_circuit::Changes;
+use sq_compile::view_name;
 use sq_engine::{AdmitRefusal, Delta, Engine, TickRefusal};
 use sq_lines::Line;
 use sq_print::{Refusal, block_text, refusal_text};

@@ -7,7 +7,7 @@ use Rattle.sq_lines.specs.Cutting.{line_feed}
 use Rattle.sq_ticks.specs.Begun.{IsEnded, IsOpen, Takes}
 use Rattle.sq_top.specs.Found.{IsFound, IsUnfound, front_of}
 use Rattle.sq_ticks.specs.Lines.{surely_before}
-use Rattle.sq_ticks.specs.Programs.{longest_text}
+use Rattle.sq_compile.specs.Programs.{longest_text}
 use Rattle.sq_ticks.specs.Seen.{Seen}
 use Rattle.sq_ticks.specs.Seen.{GivesExactly}
 use Rattle.sq_top.specs.Statuses.{IsUnjudged}

@@ -11,7 +11,9 @@ use Rattle.sq_top.specs.Found.{HasFront, IsStoppedAt, IsUnfound, front_of}
 use Rattle.sq_ticks.specs.Lines.{cut, has_end_line, is_end_line, lines_after_end, surely_before, text_before_end, up_to_last, with_ends}
 use Rattle.sq_ticks.specs.Output.{output, reports, texts_from}
 use Rattle.sq_ticks.specs.Played.{Halts, HaltsAt, IsPlayedOut, whole_reports}
-use Rattle.sq_ticks.specs.Programs.{HasFault, IsProgram, longest_text, no_end_too_long, text_too_long}
+use Rattle.sq_compile.specs.Programs.{longest_text}
+use Rattle.sq_ticks.specs.Programs.{HasFault, IsProgram, no_end_too_long}
+use Rattle.sq_ticks.proofs.Judging.{text_too_long}
 use Rattle.sq_print.specs.declared.program_fault.ProgramFault.TheVariants.{TextTooLong}
 use Rattle.sq_ticks.specs.Runs.{IsLeft, StoppedWithin}
 use Rattle.sq_ticks.specs.Seen.{Seen}
@@ -150,7 +152,7 @@ front_of_input text is more = let e = ends_text text.bytes.items text.line more 
 -- ---- a text that could not be judged
 long_by : (bytes : List ℕ) (line : ℕ) (so_far : IsOpen bytes line) → longest_text < length (surely_before bytes) → (more : List ℕ) (has : Bool) → has_end_line (lines_of (bytes ++ more)) ≡ has
     → HasFault (bytes ++ more) TextTooLong
-long_by bytes line so_far long more true has = text_too_long has (omega (arith, long, surely_stands bytes more line so_far))
+long_by bytes line so_far long more true has = text_too_long (bytes ++ more) has (omega (arith, long, surely_stands bytes more line so_far))
 long_by bytes line so_far long more false has = no_end_too_long has (omega (arith, long, surely_within bytes more line so_far))
 
 -- whatever comes behind it, it is too long

@@ -8,7 +8,7 @@ use Rattle.sq_base.specs.Causes.{Rose}
 use Rattle.sq_lines.specs.Cutting.{line_feed, lines_of}
 use Rattle.sq_ticks.specs.Begun.{IsEnded, IsOpen}
 use Rattle.sq_ticks.specs.Lines.{has_end_line, surely_before, text_before_end}
-use Rattle.sq_ticks.specs.Programs.{longest_text}
+use Rattle.sq_compile.specs.Programs.{longest_text}
 use Rattle.sq_ticks.specs.Seen.{Seen}
 use Rattle.sq_top.specs.Statuses.{IsUnjudged}
 use Rattle.sq_ticks.specs.declared.run.Stop.{Stop}

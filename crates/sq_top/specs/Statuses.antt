@@ -7,7 +7,8 @@ use Rattle.sq_ticks.specs.Lines.{cut, has_end_line, lines_after_end, surely_befo
 use Rattle.sq_ticks.specs.Output.{has_refusal, output, reports, texts_from}
 use Rattle.sq_engine.specs.Engines.{State}
 use Rattle.sq_typed.specs.Views.{Meant}
-use Rattle.sq_ticks.specs.Programs.{HasFault, IsProgram, longest_text}
+use Rattle.sq_compile.specs.Programs.{longest_text}
+use Rattle.sq_ticks.specs.Programs.{HasFault, IsProgram}
 use Rattle.sq_print.specs.FaultTexts.{told_fault}
 use Rattle.sq_top.specs.Prefixes.{TakesPrefix}
 use Rattle.sq_ticks.specs.Runs.{IsLeft}

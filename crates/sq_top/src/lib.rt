@@ -8,6 +8,7 @@ mod session;
 mod statuses;
 
 pub use calls::{Served, serve, top};
+pub use sq_compile::{CompileFault, compile};
 pub use statuses::Status;
 
 fn is_send_and_sync<T: Send + Sync>() {}

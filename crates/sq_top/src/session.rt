@@ -15,11 +15,9 @@ ghost use Rattle.sq_top.specs.Statuses.{ending_line, ending_of, engine_of, EndsA
 use crate::calls::Served;
 use crate::statuses::{Status, put_line};
 use sq_base::{Sink, Source};
+use sq_compile::{CompileFault, LONGEST_TEXT};
 use sq_print::{ProgramFault, fault_text};
-use sq_ticks::{
-    JudgeStop, Judged, LONGEST_TEXT, PIECE, Played, Stop, Text, judge_text, play_lines, play_none,
-    read_piece,
-};
+use sq_ticks::{Judged, PIECE, Played, Stop, Text, judge_text, play_lines, play_none, read_piece};
 use sq_value::NoMemory;
 use std::alloc::Global;
 
@@ -172,8 +170,8 @@ fn serve_lines<S: Source, K: Sink>(
 {
     let judged = match judge_front(alloc, text, workers) {
         Ok(judged) => judged,
-        Err(JudgeStop::Fault(fault)) => return refuse(alloc, &fault),
-        Err(JudgeStop::Memory) => return Ending::Ends(Status::NoMemory),
+        Err(CompileFault::Fault(fault)) => return refuse(alloc, &fault),
+        Err(CompileFault::Memory) => return Ending::Ends(Status::NoMemory),
     };
     let taken = (text.bytes.len() + 1 + first.len()) as u64;
     match play_lines(alloc, judged, first, input, taken, limit, out) {
@@ -193,8 +191,8 @@ fn serve_text<K: Sink>(alloc: Global, text: &Text, out: &mut K, workers: u32) ->
     }
     let judged = match judge_front(alloc, text, workers) {
         Ok(judged) => judged,
-        Err(JudgeStop::Fault(fault)) => return refuse(alloc, &fault),
-        Err(JudgeStop::Memory) => return Ending::Ends(Status::NoMemory),
+        Err(CompileFault::Fault(fault)) => return refuse(alloc, &fault),
+        Err(CompileFault::Memory) => return Ending::Ends(Status::NoMemory),
     };
     match play_none(alloc, judged, out) {
         Ok(played) => Ending::Finished(played),
@@ -215,18 +213,14 @@ fn without_end(text: &Text) -> ProgramFault
 }
 
 // The program of each input whose text is this one before its last line, or the first fault of it.
-fn judge_front(alloc: Global, text: &Text, workers: u32) -> Result<Judged, JudgeStop>
+fn judge_front(alloc: Global, text: &Text, workers: u32) -> Result<Judged, CompileFault>
     requires workers { (1 ≤ workers) × (workers ≤ 64) }
     requires so_far { IsOpen text.now.bytes.items text.now.line }
     ensures accepted { IfOk result (λ j. (input : List ℕ) → HasFront input text.now → IsProgram input j.program) }
     ensures starts { IfOk result (Starts workers) }
     ensures refused { IfErr result (λ stop. (input : List ℕ) → HasFront input text.now → Stops input stop) }
 {
-    let front = text.before_last_line();
-    if front.len() > LONGEST_TEXT {
-        return Err(JudgeStop::Fault(ProgramFault::TextTooLong));
-    }
-    judge_text(alloc, front, workers)
+    judge_text(alloc, text.before_last_line(), workers)
 }
 
 // The ending of a run that stopped.

@@ -4,7 +4,7 @@ use Rattle.std.specs.Io.KnownBytes.{Appends}
 use Rattle.sq_ticks.specs.Fits.{Fits}
 use Rattle.sq_ticks.specs.Judgements.{first_text}
 use Rattle.sq_ticks.specs.Over.{HasRoom}
-use Rattle.sq_ticks.specs.Relations.{empty_tables}
+use Rattle.sq_compile.specs.Relations.{empty_tables}
 use Rattle.sq_ticks.specs.Updates.{updates_of}
 use Rattle.sq_ticks.proofs.Playing.{first_told}
 use Rattle.sq_ticks.proofs.Reports.{stopped_same}

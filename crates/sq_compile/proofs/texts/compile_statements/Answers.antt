@@ -1,7 +1,7 @@
 use Rattle.std.proofs.lemmas.Result.{err_from_is_err_and, IfErr-weaker, IfOk-weaker}
 use Rattle.std.proofs.Common.{ap, Err}
-use Rattle.sq_ticks.proofs.Judging.{check_stops, judged_program, range_stops}
-use Rattle.sq_ticks.proofs.judge.judge_statements.Goals as goal
+use Rattle.sq_compile.proofs.Judging.{check_stops, checked_program, range_stops}
+use Rattle.sq_compile.proofs.texts.compile_statements.Goals as goal
 
 pub returns-in_err-program-clause-refused : goal.returns-in_err-program-clause-refused
 returns-in_err-program-clause-refused c =
@@ -10,12 +10,12 @@ returns-in_err-program-clause-refused c =
 
 pub returns-clause-refused : goal.returns-clause-refused
 returns-clause-refused c =
-    IfErr-weaker c.judge_program.result _ _
+    IfErr-weaker c.compile_program.result _ _
     (λ stop wrong. range_stops c.args.statements.now c.in_ok-program.program stop c.in_ok-program.ensures.accepted c.in_ok-program.ensures.typed wrong)
-    c.judge_program.ensures.refused
+    c.compile_program.ensures.refused
 
-pub returns-clause-accepted : goal.returns-clause-accepted
-returns-clause-accepted c =
-    IfOk-weaker c.judge_program.result _ _
-    (λ j is. judged_program c.args.statements.now c.in_ok-program.program j c.in_ok-program.ensures.accepted c.in_ok-program.ensures.typed is)
-    c.judge_program.ensures.accepted
+pub returns-clause-program : goal.returns-clause-program
+returns-clause-program c =
+    IfOk-weaker c.compile_program.result _ _
+    (λ made is. checked_program c.args.statements.now c.in_ok-program.program made.0 c.in_ok-program.ensures.accepted c.in_ok-program.ensures.typed is)
+    c.compile_program.ensures.program

@@ -1,8 +1,8 @@
 use Rattle.std.proofs.Common.{arith, sym, ◌∙◌}
 use Rattle.std.proofs.lemmas.Result.{IfOk-weaker}
-use Rattle.sq_ticks.proofs.RelationLemmas.{name_found, name_passed, name_skipped}
-use Rattle.sq_ticks.proofs.relations.view_name.Goals.{then-is_view+else-left-eq0, else-is_view}
-use Rattle.sq_ticks.proofs.relations.view_name.Goals as goal
+use Rattle.sq_compile.proofs.RelationLemmas.{name_found, name_passed, name_skipped}
+use Rattle.sq_compile.proofs.relations.view_name.Goals.{then-is_view+else-left-eq0, else-is_view}
+use Rattle.sq_compile.proofs.relations.view_name.Goals as goal
 
 pub returns-then-left-eq0 : goal.returns-then-left-eq0
 returns-then-left-eq0 c =

@@ -1,0 +1,4 @@
+pub mod Judging
+pub mod RelationLemmas
+pub mod EmptyTables
+pub mod Once
