@@ -7,6 +7,7 @@ use Rattle.std.proofs.lemmas.Grind.{flat_map-append}
 use Rattle.std.proofs.lemmas.List.{length-append}
 use Rattle.std.proofs.lemmas.List.Sums.{sum_by-append, sum_by-cons}
 use Rattle.std.proofs.Common.{append-nil}
+use Rattle.sq_expr.proofs.Lists.{take_more}
 use Rattle.sq_value.specs.Order.{row_cmp}
 use Rattle.sq_value.specs.OrderLaws.{row_cmp-total}
 use Rattle.sq_algebra.specs.Operators.{image, weighing}
@@ -15,7 +16,6 @@ use Rattle.sq_algebra.proofs.Weights.{entries-from_pairs}
 use Rattle.sq_expr.specs.Meaning.{column_of}
 use Rattle.sq_ops.specs.Aggregates.{has_value}
 use Rattle.sq_ops.specs.Arguments.{argument_of, arguments}
-use Rattle.sq_ops.proofs.Lists.{take_more}
 use Rattle.sq_zset.specs.Collecting.{mass_of}
 use Rattle.sq_zset.specs.Pairs.{mass, weighted_rows}
 use Rattle.sq_zset.specs.Range.{first_outside}

@@ -5,6 +5,7 @@ use mathlib.Core.Logic.{◌⊎◌, inl, inr}
 use Rattle.std.specs.List.{AllByRecursion, flat_map}
 use Rattle.std.specs.Ordering.{nat_cmp}
 use borrow.Author.Differences.{ints}
+use Rattle.sq_expr.proofs.Lists.{all_append}
 use Rattle.sq_value.specs.declared.value.Value.TheVariants.{Int}
 use Rattle.sq_value.specs.Order.{row_cmp}
 use Rattle.sq_value.specs.OrderLaws.{row_cmp-antisymmetric, row_cmp-total}
@@ -70,13 +71,9 @@ stands_here [] false e = absurd (cc e)
 stands_here (x ∷ c) true e = absurd (cc e)
 stands_here (x ∷ c) false e = absurd (cc e)
 
-each-append : {X : Type 0} (P : X → Type 0) (xs ys : List X) → AllByRecursion P xs → AllByRecursion P ys → AllByRecursion P (xs ++ ys)
-each-append P [] ys g h = h
-each-append P (x ∷ xs) ys g h = (g.0, each-append P xs ys g.1 h)
-
 each-flat : {X : Type 0} (P : X → Type 0) (f : Row → List X) → ((c : Row) → AllByRecursion P (f c)) → (cs : List Row) → AllByRecursion P (flat_map f cs)
 each-flat P f each [] = tt
-each-flat P f each (c ∷ cs) = each-append P (f c) (flat_map f cs) (each c) (each-flat P f each cs)
+each-flat P f each (c ∷ cs) = all_append P (f c) (flat_map f cs) (each c) (each-flat P f each cs)
 
 module _ (spec : AggSpec) (accs : KeptAccumulators) (ordered shown : KeptWeights) (d : Rows) (first : Bool) (s : AggState spec accs ordered shown d first) where
   -- ---- accumulators

@@ -12,6 +12,7 @@ use Rattle.std.proofs.lemmas.List.{map-append}
 use Rattle.std.proofs.lemmas.Map.{lookup-none}
 use Rattle.std.proofs.lemmas.Map.Entries.{none_below_head}
 use Rattle.std.proofs.lemmas.Map.Keys.{sorted_tail}
+use Rattle.sq_expr.proofs.Lists.{take_more}
 use Rattle.sq_value.specs.declared.value.Value.{Value}
 use Rattle.sq_value.specs.Order.{row_cmp}
 use Rattle.sq_value.specs.OrderLaws.{row_cmp-total, row_cmp-antisymmetric}
@@ -26,7 +27,6 @@ use Rattle.sq_ops.specs.Aggregates.{group_of, groups_of}
 use Rattle.sq_ops.specs.Indexes.{entries_at, with_key}
 use Rattle.sq_expr.specs.Meaning.{columns_of}
 use Rattle.sq_ops.proofs.Indexed.{Indexed, all_rows, none_indexed, one_indexed, places_in_range}
-use Rattle.sq_ops.proofs.Lists.{take_more}
 use Rattle.sq_agg.specs.ByKey.{places_of}
 
 -- ---- the keys of an entry that is put in its place

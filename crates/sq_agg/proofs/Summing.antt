@@ -4,8 +4,8 @@ use Rattle.std.specs.List.{AllByRecursion}
 use Rattle.std.specs.Option.{option_or}
 use Rattle.std.specs.Prelude.{slice_get}
 use borrow.Author.Differences.{ints}
-use Rattle.sq_expr.proofs.Lists.{all_append}
-use Rattle.sq_ops.proofs.Lists.{split_here, take_more}
+use Rattle.sq_expr.proofs.Lists.{all_append, take_more}
+use Rattle.sq_ops.proofs.Lists.{split_here}
 use Rattle.sq_agg.specs.declared.tally.Tally.{Tally}
 use Rattle.sq_agg.specs.Tallies.{IsWithin, both, first_of_tallies, first_of_tally, no_tally, summed, tally_or_none, turned}
 use Rattle.sq_agg.proofs.Bounding.{none_of_tally}

@@ -3,6 +3,7 @@ use Rattle.std.proofs.Common.{◌≡◌, ℕ, suc, ◌+◌, ◌^◌, ◌≤◌, 
 use Rattle.std.specs.Prelude.{slice_get}
 use Rattle.std.specs.List.{AllByRecursion}
 use Rattle.std.proofs.lemmas.List.Sums.{sum_by-cons}
+use Rattle.sq_expr.proofs.Lists.{take_more}
 use Rattle.sq_value.specs.Order.{row_cmp}
 use Rattle.sq_algebra.specs.ZSet.{from_pairs}
 use Rattle.sq_zset.specs.Collecting.{mass_of}
@@ -10,7 +11,6 @@ use Rattle.sq_zset.specs.Range.{first_outside}
 use Rattle.sq_zset.proofs.Masses.{mass-from_pairs, mass-in_range}
 use Rattle.sq_agg.proofs.Keys.{masses}
 use Rattle.sq_ops.specs.declared.aggregate.Call.{Call}
-use Rattle.sq_ops.proofs.Lists.{take_more}
 use Rattle.sq_trace.specs.declared.entry.Entry.{Entry}
 use Rattle.sq_trace.proofs.Searching.{drop_none}
 use Rattle.sq_zset.specs.Pairs.{mass, weighted_rows}

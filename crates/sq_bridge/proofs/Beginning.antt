@@ -17,7 +17,7 @@ use Rattle.sq_ast.specs.declared.query.StepTree.{StepTree}
 use Rattle.sq_ast.specs.declared.statement.Body.{Body}
 use Rattle.sq_ast.specs.declared.statement.Statement.{Statement}
 use Rattle.sq_catalog.specs.declared.relation.Relation.{Relation}
-use Rattle.sq_expr.proofs.Lists.{all_append, all_at, all_pass, all_passed, all_weaker}
+use Rattle.sq_expr.proofs.Lists.{all_append, all_at, all_over, all_pass, all_passed, all_weaker}
 use Rattle.sq_typed.specs.declared.query.Block.{Block, out-Block, roll-Block, out-roll-Block}
 use Rattle.sq_typed.specs.declared.query.FromItem.{FromItem, out-roll-FromItem}
 use Rattle.sq_typed.specs.declared.query.Origin.{Origin, roll-Origin}
@@ -144,10 +144,6 @@ module _ (relations : List Relation) where
 
   step_good : (op : SetOp) (q : QueryTree) → Good (resolved relations q) → StepGood (step op q)
   step_good op q h = subst (λ (x : SetOp × Resolved). Good x.1) (sym (step-is relations op q)) h
-
-  all_over : {A B : Type 0} (P : B → Type 0) (f : A → B) (xs : List A) → AllByRecursion (λ x. P (f x)) xs → AllByRecursion P (map f xs)
-  all_over P f [] h = tt
-  all_over P f (x ∷ xs) h = (h.0, all_over P f xs h.1)
 
   -- a block whose first source is joined by a comma
   rolled : (r : Block-F Origin Query Block FromItem SetStep) → starts (query.Block (roll-Block r)) ≡ (first_starts (map source_starts r.sources) && list_all (λ s. s.1) (map source_starts r.sources))

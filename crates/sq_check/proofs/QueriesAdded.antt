@@ -3,6 +3,7 @@ use Rattle.std.proofs.Common.{◌≡◌, List, [], ◌∷◌, ◌++◌, map, Boo
 use Rattle.std.specs.Prelude.{⊤}
 use Rattle.std.specs.List.{flat_map, list_any}
 use Rattle.std.proofs.lemmas.List.Folds.{list_any-append}
+use Rattle.sq_expr.proofs.Lists.{any_flat}
 use Rattle.sq_typed.specs.Faults.{has_unknown_column, has_ambiguous_column, has_nested_aggregate, has_bare_column, has_mixed_types, has_wide_expr, has_long_list, differ_in_count, mixes_sorts}
 use Rattle.sq_typed.specs.Resolved.{Parts, Joined, together, no_parts}
 use Rattle.sq_typed.specs.Selected.{Scoped}
@@ -34,10 +35,6 @@ or_left false b h = refl
 pub or_right : (a b : Bool) → (a || b) ≡ false → b ≡ false
 or_right true b h = absurd (cc h)
 or_right false b h = h
-
-pub any_flat : {A B : Type 0} (test : B → Bool) (f : A → List B) (xs : List A) → list_any test (flat_map f xs) ≡ list_any (λ x. list_any test (f x)) xs
-any_flat test f [] = refl
-any_flat test f (x ∷ xs) = list_any-append test (f x) (flat_map f xs) ∙ ap (λ b. list_any test (f x) || b) (any_flat test f xs)
 
 pub any_map : {A B : Type 0} (test : B → Bool) (f : A → B) (xs : List A) → list_any test (map f xs) ≡ list_any (λ x. test (f x)) xs
 any_map test f [] = refl

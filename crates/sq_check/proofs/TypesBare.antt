@@ -2,6 +2,7 @@
 use Rattle.std.proofs.Common.{◌≡◌, ℕ, Bool, true, false, ◌||◌, ◌&&◌, List, [], ◌∷◌, map, refl, ap, sym, ◌∙◌}
 use Rattle.std.specs.List.{flat_map, filter_map, list_any}
 use Rattle.std.proofs.lemmas.List.Folds.{list_any-append}
+use Rattle.sq_expr.proofs.Lists.{any_flat}
 use Rattle.sq_ast.specs.declared.expr.ColRef.{ColRef}
 use Rattle.sq_ast.specs.declared.expr.ExprTree.TheVariants as tree
 use Rattle.sq_ast.specs.declared.query.BlockTree.{BlockTree, out-BlockTree}
@@ -14,7 +15,7 @@ use Rattle.sq_typed.proofs.TreeEquations.{leaves-Neg, leaves-Number, leaves-Text
 use Rattle.sq_scope.specs.Scoped.{scoped_by}
 use Rattle.sq_check.specs.TypesBare.{is_bare, bare_leaf, bare_expr, bare_item}
 use Rattle.sq_scope.specs.TypesLeaves.{groups}
-use Rattle.sq_scope.proofs.TypesTrees.{any_flat, or_false, any_leaf-Sum, any_leaf-Product, leaves_call}
+use Rattle.sq_scope.proofs.TypesTrees.{or_false, any_leaf-Sum, any_leaf-Product, leaves_call}
 use Rattle.sq_check.proofs.TypesBlocks.{any_at, is_grouped-is}
 
 pub any_map : {A B : Type 0} (p : B → Bool) (f : A → B) (xs : List A) → list_any p (map f xs) ≡ list_any (λ x. p (f x)) xs

@@ -4,6 +4,7 @@ use Rattle.std.specs.Prelude.{Option, Some, None, is_some, if◌then◌else◌, 
 use Rattle.std.specs.List.{flat_map, filter_map, cons_option, list_any}
 use Rattle.std.proofs.lemmas.List.Folds.{list_any-append}
 use Rattle.std.proofs.lemmas.Grind.{flat_map-append}
+use Rattle.sq_expr.proofs.Lists.{any_flat}
 use Rattle.sq_ast.specs.declared.cond.CondTree.{CondTree}
 use Rattle.sq_ast.specs.declared.query.BlockTree.{BlockTree, out-BlockTree}
 use Rattle.sq_ast.specs.declared.query.ItemTree.{ItemTree}
@@ -19,7 +20,7 @@ use Rattle.sq_typed.specs.Scopes.{Scope, Text}
 use Rattle.sq_typed.specs.Selected.{starred, starred_from, written_out, item_leaves, has_group, is_grouped}
 use Rattle.sq_scope.specs.Scoped.{ons_from, scoped_by}
 use Rattle.sq_scope.specs.TypesLeaves.{nests, leaves_of_item, item_has_call, item_nests, join_has_call, groups, calls_in_rows, calls_nest}
-use Rattle.sq_scope.proofs.TypesTrees.{any_flat, or_false}
+use Rattle.sq_scope.proofs.TypesTrees.{or_false}
 
 -- ---- leaves of the select list
 

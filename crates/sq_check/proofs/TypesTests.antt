@@ -6,6 +6,7 @@ use Rattle.std.specs.List.{AllByRecursion, filter_map, list_any}
 use Rattle.std.proofs.lemmas.Bool.Decides.{nat_tests}
 use Rattle.std.proofs.lemmas.List.{take_more, length-take-le}
 use Rattle.std.proofs.lemmas.List.Folds.{list_any-append}
+use Rattle.sq_expr.proofs.Lists.{any_flat}
 use Rattle.sq_ast.specs.declared.cond.CondTree.{CondTree}
 use Rattle.sq_ast.specs.declared.query.BlockTree.{BlockTree, out-BlockTree}
 use Rattle.sq_ast.specs.declared.query.JoinedTree.{JoinedTree, out-JoinedTree}
@@ -30,7 +31,7 @@ use Rattle.sq_check.specs.TypesTests.{fails, cond_fails, item_fails, call_fails,
 use Rattle.sq_check.specs.declared.frame.Frame.{Frame}
 use Rattle.sq_check.specs.declared.type_tests.Test.{Test}
 use Rattle.sq_check.specs.declared.type_tests.Test.TheVariants.{Types, Bounds}
-use Rattle.sq_scope.proofs.TypesTrees.{any_flat, append_empty}
+use Rattle.sq_scope.proofs.TypesTrees.{append_empty}
 use Rattle.sq_scope.proofs.TypesLists.{left_false, right_false}
 use Rattle.sq_check.proofs.TypesBlocks.{any_at}
 use Rattle.sq_check.proofs.TypesBare.{any_map, any_same}

@@ -18,7 +18,7 @@ use Rattle.sq_expr.specs.declared.expr.Func.{Func}
 use Rattle.sq_expr.specs.declared.expr.Func.TheVariants.{CountAll, Count, Sum, Min, Max}
 use Rattle.sq_expr.specs.declared.expr.Kind.{Kind}
 use Rattle.sq_expr.specs.declared.expr.Kind.TheVariants as kind
-use Rattle.sq_expr.proofs.Lists.{all_weaker}
+use Rattle.sq_expr.proofs.Lists.{all_over, all_weaker}
 use Rattle.sq_expr.proofs.Rows.{kind_of_column, kinds_joined}
 use Rattle.sq_algebra.specs.Keyed.{at_key, keys_of}
 use Rattle.sq_algebra.specs.Operators.{keep}
@@ -96,16 +96,12 @@ calls_kinds kinds z h l (call ∷ calls) [] g inside = absurd g
 calls_kinds kinds z h l (call ∷ calls) (k ∷ ks) g inside = (call_kind kinds z h l call.func call.arg k g.0 inside.0, calls_kinds kinds z h l calls ks g.1 inside.1)
 
 -- ---- keys
-all_mapped : {X Y : Type 0} (P : Y → Type 0) (f : X → Y) (xs : List X) → AllByRecursion (λ x. P (f x)) xs → AllByRecursion P (map f xs)
-all_mapped P f [] h = tt
-all_mapped P f (x ∷ xs) h = (h.0, all_mapped P f xs h.1)
-
 module _ (kinds : List Kind) (spec : AggSpec) (own : List Kind) (g : GroupKinds kinds spec own) (z : Rows) (h : HasKinds kinds z) (l : IsListed z) where
   keys_kinds : AllByRecursion (λ c. AreOfKinds c g.keys) (keys_of row_cmp (group_of spec) z)
   unfolding keys_of
   keys_kinds =
       each-in_order (λ c. AreOfKinds c g.keys) row_cmp (map (λ e. group_of spec e.0) (entries z))
-      (all_mapped (λ c. AreOfKinds c g.keys) (λ (e : List Value × ℤ). group_of spec e.0) (entries z)
+      (all_over (λ c. AreOfKinds c g.keys) (λ (e : List Value × ℤ). group_of spec e.0) (entries z)
       (all_weaker (λ (e : List Value × ℤ). AreOfKinds e.0 kinds) (λ e. AreOfKinds (group_of spec e.0) g.keys) (entries z) (λ e r. columns_kinds kinds e.0 r (group_columns spec) g.keys g.of_keys)
       (recursion_from_All (λ (e : List Value × ℤ). AreOfKinds e.0 kinds) (entries z) h)))
 

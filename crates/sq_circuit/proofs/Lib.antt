@@ -17,3 +17,4 @@ pub mod Ending
 pub mod Judging
 pub mod Composing
 pub mod Explaining
+pub mod Counted

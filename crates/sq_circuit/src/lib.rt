@@ -4,6 +4,7 @@
 
 mod changes;
 mod circuit;
+mod counts;
 pub mod laws;
 mod node;
 mod text;

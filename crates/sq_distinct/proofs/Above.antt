@@ -3,13 +3,13 @@ use Rattle.std.proofs.Common.{◌≡◌, ℕ, ◌+◌, List, [], ◌∷◌, ◌+
 use Rattle.std.specs.Prelude.{int_lt, slice_get}
 use Rattle.std.proofs.lemmas.List.{map-append}
 use Rattle.std.proofs.lemmas.List.Elements.{filter-append}
+use Rattle.sq_expr.proofs.Lists.{take_more}
 use Rattle.sq_value.specs.declared.value.Value.{Value}
 use Rattle.sq_value.specs.Order.{row_cmp}
 use Rattle.sq_value.specs.OrderLaws.{row_cmp-total, row_cmp-antisymmetric}
 use Rattle.sq_algebra.specs.Operators.{distinct}
 use Rattle.sq_algebra.specs.ZSet.{ZSet, entries, from_pairs, keys, of_list}
 use Rattle.sq_algebra.proofs.EntryLemmas.{entries-distinct, from_pairs-entries}
-use Rattle.sq_ops.proofs.Lists.{take_more}
 
 abbrev above : List Value × ℤ → Bool
 above e = int_lt (pos 0) e.1

@@ -6,6 +6,7 @@ use Rattle.std.specs.Cmp.{tied_itself}
 use Rattle.std.proofs.lemmas.Grind.{flat_map-append}
 use Rattle.std.proofs.lemmas.List.Sums.{sum_by-append, sum_by-cons}
 use borrow.Author.Differences.{ints}
+use Rattle.sq_expr.proofs.Lists.{take_more}
 use Rattle.sq_value.specs.declared.value.Value.{Value}
 use Rattle.sq_value.specs.Order.{row_cmp}
 use Rattle.sq_value.specs.OrderLaws.{row_cmp-total, row_cmp-antisymmetric}
@@ -16,7 +17,6 @@ use Rattle.sq_algebra.proofs.Lists.{below_tied}
 use Rattle.sq_algebra.proofs.PairLemmas.{zero_from}
 use Rattle.sq_algebra.proofs.Sums.{int_sum_by-append}
 use Rattle.sq_algebra.proofs.Weights.{front_of, weight_in_none}
-use Rattle.sq_ops.proofs.Lists.{take_more}
 use Rattle.sq_trace.specs.declared.entry.Entry.{Entry}
 use Rattle.sq_zset.specs.Collecting.{mass_of}
 use Rattle.sq_zset.specs.Pairs.{mass, weighted_rows}

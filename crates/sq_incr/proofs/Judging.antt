@@ -5,7 +5,7 @@ use Rattle.std.specs.List.{Contains, list_all, list_any}
 use Rattle.std.proofs.lemmas.Bool.{and_from, and_parts}
 use Rattle.std.proofs.lemmas.Option.{same_Some, slice_get_within}
 use mathlib.Core.Logic.{inl, inr}
-use Rattle.sq_ops.proofs.Lists.{take_more}
+use Rattle.sq_expr.proofs.Lists.{take_more}
 use Rattle.sq_circuit.specs.Along.{least_below, lesser}
 use Rattle.sq_circuit.specs.Circuits.{are_sound, has_fault, is_sound, owner_at, place_at, place_in, table_at, verdict, whole, lists_too_many}
 use Rattle.sq_circuit.specs.Invariant.{IsCircuit}

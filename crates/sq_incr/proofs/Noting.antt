@@ -6,10 +6,10 @@ use Rattle.std.proofs.lemmas.Bool.{and_from, and_parts, eq-eqb, eqb-true}
 use Rattle.std.proofs.lemmas.Option.{same_Some, slice_get-get_or, slice_get_within}
 use Rattle.std.proofs.lemmas.List.{length-replicate, length-set}
 use mathlib.Core.Logic.{◌⊎◌, inl, inr}
+use Rattle.sq_expr.proofs.Lists.{take_more}
 use Rattle.sq_algebra.specs.Keyed.{numbers_below}
 use Rattle.sq_circuit.specs.Nodes.{Rows}
 use Rattle.sq_circuit.specs.declared.circuit.Part.{Part}
-use Rattle.sq_ops.proofs.Lists.{take_more}
 use Rattle.sq_states.specs.declared.kept.NodeState.{NodeState}
 use Rattle.sq_incr.specs.Orders.{is_in, is_same, task}
 use Rattle.sq_incr.specs.Ready.{IsReady}

@@ -6,7 +6,7 @@ use Rattle.std.proofs.lemmas.Bool.{and_parts, lt-ltb}
 use Rattle.std.proofs.lemmas.Option.{same_Some, slice_get-get_or}
 use Rattle.std.proofs.lemmas.List.{take-append-drop}
 use Rattle.std.proofs.lemmas.List.Sums.{sum_by-append}
-use Rattle.sq_ops.proofs.Lists.{take_more}
+use Rattle.sq_expr.proofs.Lists.{take_more}
 use Rattle.sq_circuit.specs.Circuits.{are_sound, node_at, node_in}
 use Rattle.sq_circuit.specs.Invariant.{IsCircuit, IsEarlier}
 use Rattle.sq_circuit.specs.Nodes.{Rows, Source, Nowhere, Outer, Inner, left_source, right_source}

@@ -9,10 +9,10 @@ use Rattle.sq_value.specs.declared.value.Value.{Value}
 use Rattle.sq_value.specs.Order.{row_cmp}
 use Rattle.sq_algebra.specs.Operators.{weighing}
 use Rattle.sq_algebra.specs.ZSet.{ZSet, entries}
-use Rattle.sq_expr.proofs.Lists.{all_flattened, all_weaker}
+use Rattle.sq_expr.proofs.Lists.{all_flattened, all_weaker, take_more}
 use Rattle.sq_expr.specs.Bigint.{first_not_bigint}
 use Rattle.sq_ops.specs.Extensions.{first_value_outside}
-use Rattle.sq_ops.proofs.Lists.{split_here, take_more}
+use Rattle.sq_ops.proofs.Lists.{split_here}
 use Rattle.sq_ops.proofs.Ranges.{first_here, first_later}
 use Rattle.sq_zset.specs.declared.pair.Pair.{Pair}
 use Rattle.sq_zset.specs.Pairs.{mass, weighted_rows}

@@ -7,6 +7,7 @@ use Rattle.std.proofs.lemmas.List.{take-append-drop}
 use Rattle.std.proofs.lemmas.List.Elements.{filter-append}
 use Rattle.std.proofs.lemmas.Grind.{flat_map-append}
 use Rattle.std.proofs.lemmas.Option.{get_or_from_slice_get, slice_get_within}
+use Rattle.sq_expr.proofs.Lists.{take_more}
 
 pub list_all-append : {A : Type 0} (p : A → Bool) (xs ys : List A) → list_all p (xs ++ ys) ≡ (list_all p xs && list_all p ys)
 list_all-append p [] ys = refl
@@ -50,23 +51,20 @@ any_of_lists p f [] = refl
 any_of_lists p f (x ∷ xs) = list_any-append p (f x) (flat_map (λ ys. ys) (map f xs)) ∙ ap (λ b. list_any p (f x) || b) (any_of_lists p f xs)
 
 module _ {A : Type 0} (xs : List A) (i : ℕ) (x : A) (found : slice_get xs i ≡ Some x) where
-  pub take_more : take (i + 1) xs ≡ take i xs ++ x ∷ []
-  take_more = ap (λ n. take n xs) (add-one i) ∙ take-suc xs i x (slice_get_within xs i x found) ∙ ap (λ y. take i xs ++ y ∷ []) (get_or_from_slice_get xs i x x found)
-
   pub all_more : (p : A → Bool) → list_all p (take (i + 1) xs) ≡ (list_all p (take i xs) && p x)
-  all_more p = ap (list_all p) take_more ∙ list_all-append p (take i xs) (x ∷ []) ∙ ap (λ b. list_all p (take i xs) && b) (and_true (p x))
+  all_more p = ap (list_all p) (take_more xs i x found) ∙ list_all-append p (take i xs) (x ∷ []) ∙ ap (λ b. list_all p (take i xs) && b) (and_true (p x))
 
   pub filter_more : (p : A → Bool) → filter p (take (i + 1) xs) ≡ filter p (take i xs) ++ filter p (x ∷ [])
-  filter_more p = ap (filter p) take_more ∙ filter-append p (take i xs) (x ∷ [])
+  filter_more p = ap (filter p) (take_more xs i x found) ∙ filter-append p (take i xs) (x ∷ [])
 
   pub map_more : {B : Type 0} (f : A → B) → map f (take (i + 1) xs) ≡ map f (take i xs) ++ f x ∷ []
-  map_more f = ap (map f) take_more ∙ map-append f (take i xs) (x ∷ [])
+  map_more f = ap (map f) (take_more xs i x found) ∙ map-append f (take i xs) (x ∷ [])
 
   pub flat_more : {B : Type 0} (f : A → List B) → flat_map f (take (i + 1) xs) ≡ flat_map f (take i xs) ++ f x
-  flat_more f = ap (flat_map f) take_more ∙ flat_map-append f (take i xs) (x ∷ []) ∙ ap (λ ys. flat_map f (take i xs) ++ ys) (append-nil (f x))
+  flat_more f = ap (flat_map f) (take_more xs i x found) ∙ flat_map-append f (take i xs) (x ∷ []) ∙ ap (λ ys. flat_map f (take i xs) ++ ys) (append-nil (f x))
 
   pub any_more : (p : A → Bool) → list_any p (take (i + 1) xs) ≡ (list_any p (take i xs) || p x)
-  any_more p = ap (list_any p) take_more ∙ list_any-append p (take i xs) (x ∷ []) ∙ ap (λ b. list_any p (take i xs) || b) (or_false (p x))
+  any_more p = ap (list_any p) (take_more xs i x found) ∙ list_any-append p (take i xs) (x ∷ []) ∙ ap (λ b. list_any p (take i xs) || b) (or_false (p x))
 
   -- what two functions make of the members so far, and which of what one makes passes a test
   pub mapped_more : {B C : Type 0} (f : B → C) (g : A → B) → map f (map g (take (i + 1) xs)) ≡ map f (map g (take i xs)) ++ f (g x) ∷ []

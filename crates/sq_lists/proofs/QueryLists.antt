@@ -7,7 +7,7 @@ use Rattle.std.proofs.Math.Seq.{drop-cons}
 use Rattle.std.proofs.lemmas.Option.{get_or_from_slice_get, slice_get_within}
 use Rattle.sq_ast.specs.declared.query.SetOp.{SetOp}
 use Rattle.sq_expr.specs.declared.expr.Kind.{Kind}
-use Rattle.sq_expr.proofs.Lists.{all_weaker}
+use Rattle.sq_expr.proofs.Lists.{all_weaker, take_more}
 use Rattle.sq_typed.specs.declared.query.FromItem.{FromItem}
 use Rattle.sq_typed.specs.declared.query.Origin.{Origin}
 use Rattle.sq_typed.specs.declared.query.Origin.TheVariants as origin
@@ -27,7 +27,6 @@ use Rattle.sq_lists.specs.declared.listing.Listing.{Listing}
 use Rattle.sq_lists.specs.declared.stop.Stop.{Stop}
 use Rattle.sq_lists.specs.declared.stop.Stop.TheVariants.{Range}
 use Rattle.sq_lists.proofs.ChainFaults.{ChainStands, chain_goes, chain_starts, first_out, member_out, step_out}
-use Rattle.sq_lists.proofs.Loops.{take_more}
 
 -- ---- loops and `?`
 

@@ -3,13 +3,14 @@ use Rattle.std.proofs.Common.{◌≡◌, ℕ, suc, ◌+◌, List, [], ◌∷◌,
 use Rattle.std.specs.Prelude.{slice_get}
 use Rattle.std.proofs.lemmas.List.{map-append}
 use Rattle.std.proofs.lemmas.Grind.{flat_map-append}
+use Rattle.sq_expr.proofs.Lists.{take_more}
 use Rattle.sq_value.specs.declared.value.Value.{Value}
 use Rattle.sq_value.specs.Order.{row_cmp}
 use Rattle.sq_algebra.specs.ZSet.{ZSet}
 use Rattle.sq_ops.specs.declared.aggregate.Call.{Call}
 use Rattle.sq_ops.specs.Aggregates.{call_value, sums_of, tested_sum}
 use Rattle.sq_expr.specs.Bigint.{first_not_bigint}
-use Rattle.sq_ops.proofs.Lists.{split_here, take_more}
+use Rattle.sq_ops.proofs.Lists.{split_here}
 use Rattle.sq_ops.proofs.Ranges.{first_here, first_later}
 
 module _ (calls : List Call) (z : ZSet (List Value) row_cmp) where

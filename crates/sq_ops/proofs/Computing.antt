@@ -5,6 +5,7 @@ use Rattle.std.specs.Int.{w64}
 use Rattle.std.specs.List.{flat_map}
 use Rattle.std.proofs.lemmas.List.{map-append}
 use Rattle.std.proofs.lemmas.Grind.{flat_map-append}
+use Rattle.sq_expr.proofs.Lists.{take_more}
 use Rattle.sq_value.specs.declared.value.Value.{Value}
 use Rattle.sq_value.specs.declared.value.Value.TheVariants.{Int}
 use Rattle.sq_expr.specs.declared.expr.Expr.{Expr}
@@ -16,7 +17,7 @@ use Rattle.sq_ops.specs.declared.fault.OpFault.TheVariants as op
 use Rattle.sq_expr.specs.Bigint.{first_not_bigint}
 use Rattle.sq_ops.specs.Faults.{fault_of}
 use Rattle.sq_ops.specs.Rows.{items_of, number_in, numbers_of}
-use Rattle.sq_ops.proofs.Lists.{split_here, take_more}
+use Rattle.sq_ops.proofs.Lists.{split_here}
 use Rattle.sq_ops.proofs.Ranges.{first_here, first_later, item_inside, item_outside}
 
 -- the first i items are computed, and none of their numbers lies outside

@@ -4,9 +4,9 @@ use Rattle.std.specs.Prelude.{slice_get}
 use Rattle.std.specs.List.{fold}
 use Rattle.std.proofs.lemmas.Grind.{fold-append}
 use Rattle.std.proofs.lemmas.List.{map-append}
+use Rattle.sq_expr.proofs.Lists.{take_more}
 use Rattle.sq_value.specs.declared.value.Value.{Value}
 use Rattle.sq_expr.specs.Meaning.{column_of}
-use Rattle.sq_ops.proofs.Lists.{take_more}
 
 pub folded_more : (f : Value → Value → Value) (a : Value) (column : ℕ) (es : List (List Value × ℤ)) (i : ℕ) (row : List Value) (n : ℤ) → slice_get es i ≡ Some (row, n) → fold f a (map (λ e. column_of e.0 column) (take (i + 1) es)) ≡ f (fold f a (map (λ e. column_of e.0 column) (take i es))) (column_of row column)
 folded_more f a column es i row n found =

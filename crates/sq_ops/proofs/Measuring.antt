@@ -4,6 +4,7 @@ use Rattle.std.specs.Prelude.{slice_get, FitsSigned}
 use Rattle.std.specs.Int.{w64, w128}
 use Rattle.std.specs.List.{AllByRecursion}
 use Rattle.std.proofs.lemmas.Int.{fits_signed_from_abs, unsigned_abs-mul}
+use Rattle.sq_expr.proofs.Lists.{take_more}
 use Rattle.sq_zset.proofs.Entries.{kept_128}
 use Rattle.std.proofs.lemmas.List.Elements.{recursion_from_All}
 use Rattle.std.proofs.lemmas.List.Sums.{sum_by-cons}
@@ -25,7 +26,6 @@ use Rattle.sq_ops.specs.declared.measure.Measure.{Measure}
 use Rattle.sq_ops.specs.declared.measure.Measure.TheVariants.{Values, Numbers}
 use Rattle.sq_ops.specs.Aggregates.{count_in, has_value, number_at, sum_in}
 use Rattle.sq_ops.specs.Measures.{HasBigints, IsMeasurable, factor_of, weighted}
-use Rattle.sq_ops.proofs.Lists.{take_more}
 
 module _ (h : List Value → ℤ) where
   abbrev pub measure : List (List Value × ℤ) → ℤ

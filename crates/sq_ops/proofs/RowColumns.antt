@@ -4,6 +4,7 @@ use Rattle.std.specs.Prelude.{slice_get, unwrap_or}
 use Rattle.std.specs.List.{list_any}
 use Rattle.std.proofs.lemmas.List.{map-append, take_all}
 use Rattle.std.proofs.lemmas.Option.{cond_some, slice_get-get_or}
+use Rattle.sq_expr.proofs.Lists.{take_more}
 use Rattle.sq_value.specs.declared.value.Value.{Value}
 use Rattle.sq_value.specs.declared.value.Value.TheVariants.{Null}
 use Rattle.sq_algebra.specs.Keyed.{numbers_below}
@@ -12,7 +13,6 @@ use Rattle.sq_expr.specs.declared.expr.Expr.TheVariants as expr
 use Rattle.sq_expr.proofs.Equations.{num-Column}
 use Rattle.sq_ops.specs.Joins.{key_in}
 use Rattle.sq_ops.specs.Rows.{Row, items_of}
-use Rattle.sq_ops.proofs.Lists.{take_more}
 
 -- the first n columns
 pub columns_below : (n : ℕ) (row : Row) → n ≤ length row → columns_of (numbers_below n) row ≡ take n row

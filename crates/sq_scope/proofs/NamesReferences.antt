@@ -5,6 +5,7 @@ use Rattle.std.proofs.Math.Seq.{take-length}
 use Rattle.std.proofs.lemmas.Grind.{flat_map-append}
 use Rattle.std.proofs.lemmas.List.Folds.{list_any-append}
 use Rattle.std.specs.List.{flat_map, list_any}
+use Rattle.sq_expr.proofs.Lists.{any_flat}
 use Rattle.sq_ast.specs.declared.cond.CmpTree.{CmpTree}
 use Rattle.sq_ast.specs.declared.cond.CondTree.{CondTree}
 use Rattle.sq_ast.specs.declared.cond.CondTree.TheVariants as condition
@@ -24,11 +25,6 @@ use Rattle.std.specs.Prelude.{Option, Some, None}
 use Rattle.sq_typed.specs.Leaves.{refs, exprs_in, exprs_of}
 use Rattle.sq_typed.specs.Selected.{Scoped}
 use Rattle.sq_typed.proofs.TreeEquations.{refs-Sum, refs-Product, refs-Column, refs-CountAll, refs-Call, exprs-Any, exprs-All, exprs-Not, exprs-Compare, exprs-Null}
-
--- a test of some member of many lists
-pub any_flat : {A B : Type 0} (p : B → Bool) (f : A → List B) (xs : List A) → list_any p (flat_map f xs) ≡ list_any (λ x. list_any p (f x)) xs
-any_flat p f [] = refl
-any_flat p f (x ∷ xs) = list_any-append p (f x) (flat_map f xs) ∙ ap (λ b. list_any p (f x) || b) (any_flat p f xs)
 
 pub any_flat_map : {A B : Type 0} (p : B → Bool) (f : A → List B) (xs : List A) → list_any p (flat_map (λ ys. ys) (map f xs)) ≡ list_any (λ x. list_any p (f x)) xs
 any_flat_map p f [] = refl

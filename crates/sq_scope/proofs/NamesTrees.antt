@@ -4,6 +4,7 @@ use Rattle.std.specs.Prelude.{Some, None, Result, IfOk, is_none, slice_get, byte
 use Rattle.std.proofs.lemmas.Option.{same_Some}
 use Rattle.std.proofs.lemmas.List.Folds.{list_any-append}
 use Rattle.std.specs.List.{flat_map, list_any}
+use Rattle.sq_expr.proofs.Lists.{any_flat}
 use Rattle.sq_ast.specs.declared.query.BlockTree.{BlockTree, out-BlockTree, roll-out-BlockTree}
 use Rattle.sq_ast.specs.declared.query.ItemTree.{ItemTree}
 use Rattle.sq_ast.specs.declared.query.ItemTree.TheVariants as item
@@ -18,7 +19,6 @@ use Rattle.sq_ast.specs.declared.query.StepTree.{StepTree, out-StepTree, roll-ou
 use Rattle.sq_catalog.specs.Names.{is_named}
 use Rattle.sq_catalog.specs.declared.relation.Column.{Column}
 use Rattle.sq_catalog.specs.declared.relation.Relation.{Relation}
-use Rattle.sq_scope.proofs.NamesReferences.{any_flat}
 use Rattle.sq_scope.specs.NamesFaults.{has_name_fault, name_of, source_name, is_block_fault, is_relation_fault, is_head_fault, source_fault, has_source_fault, has_block_fault, is_unnamed}
 use Rattle.sq_scope.specs.declared.names.NameFault.{NameFault}
 use Rattle.sq_scope.specs.declared.names.NameFault.TheVariants.{SameSources, UnknownRelation, UnnamedItem}

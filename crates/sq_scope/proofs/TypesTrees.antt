@@ -4,6 +4,7 @@ use Rattle.std.specs.Prelude.{Option, Some, None, option_to_list}
 use Rattle.std.specs.List.{flat_map, list_any}
 use Rattle.std.proofs.lemmas.List.Folds.{list_any-append, flat_map-map}
 use Rattle.std.proofs.lemmas.Grind.{flat_map-append}
+use Rattle.sq_expr.proofs.Lists.{any_flat}
 use Rattle.sq_ast.specs.declared.cond.CmpTree.{CmpTree}
 use Rattle.sq_ast.specs.declared.cond.CondTree.{CondTree}
 use Rattle.sq_ast.specs.declared.cond.CondTree.TheVariants as condition
@@ -29,10 +30,6 @@ use Rattle.sq_scope.specs.TypesLeaves.{nests, cond_leaves}
 use Rattle.sq_typed.proofs.TreeEquations.{leaves-Sum, leaves-Product, leaves-Neg, leaves-Number, leaves-Text, leaves-Column, leaves-CountAll, leaves-Call, exprs-Any, exprs-All, exprs-Not, exprs-Compare, exprs-Null, replaced-Sum, replaced-Product, replaced-Neg, replaced-Number, replaced-Text, replaced-Column, replaced-CountAll, replaced-Call, replaced_cond-Any, replaced_cond-All, replaced_cond-Not, replaced_cond-Compare, replaced_cond-Null}
 
 -- ---- lists
-
-pub any_flat : {A B : Type 0} (p : B → Bool) (f : A → List B) (xs : List A) → list_any p (flat_map f xs) ≡ list_any (λ x. list_any p (f x)) xs
-any_flat p f [] = refl
-any_flat p f (x ∷ xs) = list_any-append p (f x) (flat_map f xs) ∙ ap (λ b. list_any p (f x) || b) (any_flat p f xs)
 
 pub map_twice : {A B C : Type 0} (g : B → C) (f : A → B) (xs : List A) → map g (map f xs) ≡ map (λ x. g (f x)) xs
 map_twice g f [] = refl

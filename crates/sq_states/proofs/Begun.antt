@@ -2,10 +2,10 @@
 use Rattle.std.proofs.Common.{◌≡◌, ℕ, ◌+◌, List, [], ◌∷◌, ◌++◌, map, take, Some, None, refl, sym, ap, ap₂, ◌∙◌}
 use Rattle.std.specs.Prelude.{Option, slice_get}
 use Rattle.std.proofs.lemmas.Option.{same_Some}
+use Rattle.sq_expr.proofs.Lists.{take_more}
 use Rattle.sq_circuit.specs.Circuits.{node_at, node_in}
 use Rattle.sq_circuit.specs.declared.circuit.Part.{Part}
 use Rattle.sq_circuit.specs.declared.node.Node.{Node}
-use Rattle.sq_ops.proofs.Lists.{take_more}
 use Rattle.sq_states.specs.Empty.{empty_state, empty_states}
 use Rattle.sq_states.specs.declared.kept.NodeState.{NodeState}
 

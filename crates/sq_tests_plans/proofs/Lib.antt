@@ -1,2 +1,1 @@
 mod Sources
-mod Tables

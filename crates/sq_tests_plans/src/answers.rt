@@ -5,11 +5,11 @@ ghost use Rattle.sq_ast.specs.Sources.{program_sources};
 ghost use Rattle.sq_typed.specs.Checked.{Spelling};
 ghost use Rattle.sq_typed.specs.Sources.{sources_in};
 
-use crate::good::are_good;
 use crate::texts::{put_rows, tables_of};
 use sq_ast::Statement;
 use sq_check::check;
 use sq_circuit::{Circuit, Node};
+use sq_good::are_good;
 use sq_parse::statements;
 use sq_plan::plan;
 use sq_token::{Token, tokens};

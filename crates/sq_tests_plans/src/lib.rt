@@ -4,8 +4,6 @@
 #[cfg(test)]
 mod answers;
 #[cfg(test)]
-mod good;
-#[cfg(test)]
 mod ranges;
 #[cfg(test)]
 mod shop;

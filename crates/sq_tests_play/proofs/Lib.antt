@@ -1,3 +1,2 @@
 mod Sources
-mod Tables
 mod Starting

@@ -5,10 +5,10 @@ ghost use Rattle.sq_incr.specs.Plays.{HaveShape};
 
 use crate::circuits::planned;
 use crate::drawn::tables_of;
-use crate::good::are_good;
 use crate::orders::{by_node, drawn_order};
 use crate::played::{are_same, change_of, played};
 use sq_circuit::Circuit;
+use sq_good::are_good;
 use sq_incr::{Pieces, PlayRefusal, Task};
 use sq_whole::{EvalFault, whole_eval};
 use sq_zset::ZSet;

@@ -6,8 +6,6 @@ mod circuits;
 #[cfg(test)]
 mod drawn;
 #[cfg(test)]
-mod good;
-#[cfg(test)]
 mod held;
 #[cfg(test)]
 mod orders;

@@ -3,10 +3,10 @@ ghost use Rattle.std.specs.Prelude.{◌≤◌};
 ghost use Rattle.sq_circuit.specs.Invariant.{IsGood};
 
 use crate::circuits::planned;
-use crate::good::are_good;
 use crate::orders::by_node;
 use crate::played::{are_same, change_of, played};
 use sq_circuit::Circuit;
+use sq_good::are_good;
 use sq_incr::{PlayRefusal, Task};
 use sq_value::{NoMemory, Row, Value};
 use sq_zset::ZSet;

@@ -5,6 +5,7 @@ use Rattle.std.specs.Ordering.{ordering_then}
 use Rattle.std.specs.Cmp.{tied_itself}
 use Rattle.std.proofs.lemmas.Grind.{flat_map-append}
 use borrow.Author.Differences.{ints}
+use Rattle.sq_expr.proofs.Lists.{take_more}
 use Rattle.sq_value.specs.declared.value.Value.{Value}
 use Rattle.sq_value.specs.Order.{row_cmp}
 use Rattle.sq_value.specs.OrderLaws.{row_cmp-total, row_cmp-antisymmetric}
@@ -14,7 +15,6 @@ use Rattle.sq_algebra.specs.Listed.{is_below_all}
 use Rattle.sq_algebra.specs.ZSet.{ZSet, entries, entries_canonical, is_canonical, keys, weight, weight_in}
 use Rattle.sq_algebra.proofs.ListLemmas.{tie_back}
 use Rattle.sq_algebra.proofs.Weights.{front_of, weight-entries}
-use Rattle.sq_ops.proofs.Lists.{take_more}
 use Rattle.sq_ops.specs.Indexes.{with_key}
 use Rattle.sq_trace.specs.declared.entry.Entry.{Entry}
 use Rattle.sq_trace.specs.Keys.{AllInRange, AreDistinct, NoneAt}

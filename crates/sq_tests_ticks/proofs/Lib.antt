@@ -2,4 +2,3 @@ mod Closing
 mod Putting
 mod Settling
 mod Standing
-mod Tables

@@ -4,10 +4,10 @@ ghost use Rattle.sq_circuit.specs.Nodes.{Rows};
 ghost use Rattle.sq_tests_ticks.specs.Ticks.{EachAt, IsPlusAt, IsStep};
 
 use crate::drawn::{below, next, table_of};
-use crate::good::are_good;
 use crate::ticks::{Step, copies};
 use sq_circuit::{Circuit, Node};
 use sq_expr::Kind;
+use sq_good::are_good;
 use sq_value::{NoMemory, Row};
 use sq_zset::{ZFault, ZSet};
 use std::alloc::Global;

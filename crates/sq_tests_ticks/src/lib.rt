@@ -13,8 +13,6 @@ mod ended;
 #[cfg(test)]
 mod generated;
 #[cfg(test)]
-mod good;
-#[cfg(test)]
 mod held;
 #[cfg(test)]
 mod nodes;

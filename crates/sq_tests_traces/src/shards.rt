@@ -1,8 +1,13 @@
 //! Shards: the numbers of some keys, worked out outside the program, and parts that are made and put together again.
+ghost use Rattle.std.specs.Prelude.{IsTrue, ◌∷◌, []};
+ghost use Rattle.std.specs.List.{All};
+ghost use Rattle.sq_algebra.specs.ZSet.{entries};
+ghost use Rattle.sq_shard.specs.Shards.{HasColumns};
+
 use crate::rows::row_of;
 use sq_shard::{gather, scatter, scatter_owned, shard_of};
 use sq_value::{NoMemory, Row, Str, Value};
-use sq_zset::ZSet;
+use sq_zset::{Group, ZSet};
 use std::alloc::Global;
 use std::process::Abort;
 use std::test::Fail;
@@ -41,6 +46,23 @@ fn keys_have_these_shards(rt: HostRuntime) -> Result<(), Fail> {
     Ok(())
 }
 
+// A row of so many NULLs.
+fn nulls(alloc: Global, count: usize) -> Result<Row, NoMemory> {
+    let mut values = Vec::new(alloc);
+    for _ in 0..count {
+        values.push(Value::Null)?;
+    }
+    Ok(Row::of(values))
+}
+
+#[test]
+fn nulls_have_these_shards(rt: HostRuntime) -> Result<(), Fail> {
+    let alloc = rt.alloc();
+    check_key(&rt, &nulls(alloc, 1)?, &[(1, 0), (2, 1)]);
+    check_key(&rt, &nulls(alloc, 2)?, &[(2, 0), (3, 2), (64, 52)]);
+    Ok(())
+}
+
 fn two_rows(alloc: Global) -> Result<ZSet, NoMemory> {
     let mut rows = Vec::new(alloc);
     rows.push(row_of(alloc, 5)?)?;
@@ -72,5 +94,66 @@ fn parts_with_the_same_rows_add_up(rt: HostRuntime) -> Result<(), Fail> {
     assert_eq!(rt; parts.len(), 1);
     parts.push(two_rows(alloc)?)?;
     assert_eq!(rt; told(alloc, &gather(alloc, parts)?)?, (2, 2, 2));
+    Ok(())
+}
+
+// NULL once, 1 twice and 2 three times.
+fn three_rows(alloc: Global) -> Result<ZSet, NoMemory> {
+    let mut rows = Vec::new(alloc);
+    rows.push(nulls(alloc, 1)?)?;
+    for number in [1, 1, 2, 2, 2] {
+        rows.push(row_of(alloc, number)?)?;
+    }
+    ZSet::of_rows(alloc, rows)
+}
+
+// How many rows a Z-set has, and the weights of NULL, 1 and 2.
+fn weights(alloc: Global, z: &ZSet) -> Result<(usize, i64, i64, i64), NoMemory> {
+    let null = z.weight_of(&nulls(alloc, 1)?);
+    let one = z.weight_of(&row_of(alloc, 1)?);
+    let two = z.weight_of(&row_of(alloc, 2)?);
+    Ok((z.len(), null, one, two))
+}
+
+// Whether no row is empty.
+fn have_a_column(z: &ZSet) -> bool
+    ensures { IsTrue result → All (λ e. HasColumns (0 ∷ []) e.0) (entries z.now) }
+{
+    for i in 0..z.len() {
+        let (row, _) = z.at(i);
+        if row.len() == 0 {
+            return false;
+        }
+    }
+    true
+}
+
+#[test]
+fn rows_are_parted_by_a_column(rt: HostRuntime) -> Result<(), Fail> {
+    let alloc = rt.alloc();
+    let rows = three_rows(alloc)?;
+    if !have_a_column(&rows) {
+        return Err(Fail::from("an empty row"));
+    }
+    let parts = scatter(alloc, &rows, &[0], 2)?;
+    assert_eq!(rt; parts.len(), 2);
+    assert_eq!(rt; weights(alloc, &parts[0])?, (1, 0, 0, 3));
+    assert_eq!(rt; weights(alloc, &parts[1])?, (2, 1, 2, 0));
+    assert_eq!(rt; weights(alloc, &gather(alloc, parts)?)?, (3, 1, 2, 3));
+    Ok(())
+}
+
+#[test]
+fn weights_of_a_row_add_up(rt: HostRuntime) -> Result<(), Fail> {
+    let alloc = rt.alloc();
+    let mut ones = Vec::new(alloc);
+    ones.push(row_of(alloc, 1)?)?;
+    let one = ZSet::of_rows(alloc, ones)?;
+    let mut twos = Vec::new(alloc);
+    twos.push(row_of(alloc, 2)?)?;
+    let mut parts = Vec::new(alloc);
+    parts.push(one.plus(alloc, &one)?)?;
+    parts.push(ZSet::of_rows(alloc, twos)?.minus(alloc, &one)?)?;
+    assert_eq!(rt; weights(alloc, &gather(alloc, parts)?)?, (2, 0, 1, 1));
     Ok(())
 }

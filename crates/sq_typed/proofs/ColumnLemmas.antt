@@ -6,7 +6,7 @@ use Rattle.std.proofs.lemmas.List.{length-append}
 use Rattle.std.proofs.lemmas.Option.{same_Some}
 use Rattle.std.proofs.lemmas.Bool.Decides.{Decides-eqb}
 use Rattle.sq_expr.specs.declared.cond.Cond.{Cond}
-use Rattle.sq_expr.proofs.Lists.{all_from, all_weaker}
+use Rattle.sq_expr.proofs.Lists.{all_from, all_over, all_weaker}
 use Rattle.sq_typed.specs.declared.query.Query.{Query, roll-Query}
 use Rattle.sq_typed.specs.declared.query.Query.TheVariants as query
 use Rattle.sq_typed.specs.declared.query.Block.{Block, out-Block}
@@ -118,10 +118,6 @@ number_there (Some w) e = record { number = w; is = refl }
 all_there : {A : Type 0} (f : A → Number) (xs : List A) → list_all is_some (map f xs) ≡ true → AllByRecursion (λ x. There (f x)) xs
 all_there f [] e = tt
 all_there f (x ∷ xs) e = (number_there (f x) (and_left (is_some (f x)) (list_all is_some (map f xs)) e), all_there f xs (and_right (is_some (f x)) (list_all is_some (map f xs)) e))
-
-all_over : {A B : Type 0} (P : B → Type 0) (f : A → B) (xs : List A) → AllByRecursion (λ x. P (f x)) xs → AllByRecursion P (map f xs)
-all_over P f [] h = tt
-all_over P f (x ∷ xs) h = (h.0, all_over P f xs h.1)
 
 -- ---- the rows of a query
 

@@ -16,7 +16,7 @@ use Rattle.sq_expr.specs.declared.cond.Cond.{Cond}
 use Rattle.sq_expr.specs.declared.expr.Expr.{Expr}
 use Rattle.sq_expr.specs.declared.expr.Func.{Func}
 use Rattle.sq_expr.specs.declared.expr.Kind.{Kind}
-use Rattle.sq_expr.proofs.Lists.{all_front, all_back, all_append, all_from, all_weaker, all_passed}
+use Rattle.sq_expr.proofs.Lists.{all_append, all_back, all_from, all_front, all_over, all_passed, all_weaker}
 use Rattle.sq_typed.specs.declared.query.BlockCall.{BlockCall}
 use Rattle.sq_typed.specs.Blocks.{is_sum}
 use Rattle.sq_typed.specs.Faults.{references, finds_nothing, item_exprs, is_unknown_star, has_unknown_column, typed_exprs, typed_conds, sums_text, has_mixed_types, is_too_wide, has_wide_expr}
@@ -33,10 +33,6 @@ use Rattle.sq_typed.proofs.FitTests.{both_true}
 pub all_unmapped : {A B : Type 0} (P : B → Type 0) (f : A → B) (xs : List A) → AllByRecursion P (map f xs) → AllByRecursion (λ x. P (f x)) xs
 all_unmapped P f [] h = tt
 all_unmapped P f (x ∷ xs) h = (h.0, all_unmapped P f xs h.1)
-
-all_mapped : {A B : Type 0} (P : B → Type 0) (f : A → B) (xs : List A) → AllByRecursion (λ x. P (f x)) xs → AllByRecursion P (map f xs)
-all_mapped P f [] h = tt
-all_mapped P f (x ∷ xs) h = (h.0, all_mapped P f xs h.1)
 
 pub all_pass_test : {A : Type 0} (p : A → Bool) (xs : List A) → AllByRecursion (λ x. p x ≡ true) xs → list_all p xs ≡ true
 all_pass_test p [] h = refl
@@ -212,14 +208,14 @@ module _ (b : Scoped) (known : has_unknown_column b ≡ false) (typed : has_mixe
       let found = all_unmapped (λ r. finds_nothing r ≡ false) (λ r. (b.scope, r)) (others ++ b.group)
       (all_front (λ r. finds_nothing r ≡ false) (map (λ r. (b.scope, r)) (others ++ b.group)) (flat_map (λ on. map (λ r. (on.0, r)) (flat_map refs (exprs_in on.1))) b.ons)
       (none_pass finds_nothing (references b) (or_left (list_any finds_nothing (references b)) (list_any (is_unknown_star b.scope) b.items) known))) in
-      all_mapped (λ n. nat_lt n (length row_kinds) ≡ true) (number_of b.scope) b.group
+      all_over (λ n. nat_lt n (length row_kinds) ≡ true) (number_of b.scope) b.group
       (all_weaker (λ r. finds_nothing (b.scope, r) ≡ false) (λ r. nat_lt (number_of b.scope r) (length row_kinds) ≡ true) b.group (number_below b.scope)
       (all_back (λ r. finds_nothing (b.scope, r) ≡ false) others b.group found))
 
   arguments_fit : AllByRecursion (λ c. argument_fits row_kinds c.func c.arg ≡ true) (block_calls b)
   arguments_fit = calls_fit row_kinds (block_calls b)
       (kept_all (λ c. WithArgument c.func c.arg ≡ true) is_same_call (map (typed_call b.scope) (call_trees b)) []
-      (all_mapped (λ c. WithArgument c.func c.arg ≡ true) (typed_call b.scope) (call_trees b)
+      (all_over (λ c. WithArgument c.func c.arg ≡ true) (typed_call b.scope) (call_trees b)
       (all_weaker (λ c. has_argument c.func c.arg ≡ true) (λ c. WithArgument (func_of c.func c.arg) (option_map (row_expr b.scope) c.arg) ≡ true) (call_trees b) (λ c h. one_call b.scope c.func c.arg h) w.calls)) tt)
       (none_pass sums (block_calls b) (or_right (list_any no_sort (typed_exprs b) || list_any untyped (typed_conds b)) (list_any sums (block_calls b)) typed))
       (all_unmapped ExprSuits (λ e. (kinds_in b.scope, e)) (filter_map (λ c. c.arg) (block_calls b))

@@ -18,7 +18,7 @@ use Rattle.sq_catalog.specs.declared.relation.Column.{Column}
 use Rattle.sq_catalog.specs.declared.relation.Relation.{Relation}
 use Rattle.sq_expr.specs.Typing.{sort_of_kind, are_alike}
 use Rattle.sq_expr.specs.declared.expr.Kind.{Kind}
-use Rattle.sq_expr.proofs.Lists.{all_front, all_back, all_from, all_weaker}
+use Rattle.sq_expr.proofs.Lists.{all_back, all_from, all_front, all_over, all_weaker}
 use Rattle.sq_typed.specs.declared.query.Block.{roll-Block, out-roll-Block}
 use Rattle.sq_typed.specs.declared.query.FromItem.{out-roll-FromItem}
 use Rattle.sq_typed.specs.declared.query.Origin.TheVariants as origin
@@ -277,10 +277,6 @@ module _ (relations : List Relation) where
   steps_kinded : (rest : List (SetOp × Resolved)) → map (λ s. kinded kss s.query) (map set_step rest) ≡ map (λ m. kinded kss m.query) (map (λ s. s.1) rest)
   steps_kinded [] = refl
   steps_kinded (s ∷ rest) = (λ i. kinded kss (out-roll-SetStep (record { op = s.0; query = s.1.query }) i).query ∷ steps_kinded rest i)
-
-  all_over : {A B : Type 0} (P : B → Type 0) (f : A → B) (xs : List A) → AllByRecursion (λ x. P (f x)) xs → AllByRecursion P (map f xs)
-  all_over P f [] h = tt
-  all_over P f (x ∷ xs) h = (h.0, all_over P f xs h.1)
 
   chain_ok : (first : Resolved) (rest : List (SetOp × Resolved)) → Ok first → AllByRecursion (λ s. Ok s.1) rest → Ok (of_query relations (QueryTree-F.Chain first rest))
   chain_ok first rest h hs =

@@ -33,4 +33,4 @@ pub mod CheckedFits
 pub mod Latest
 pub mod Members
 pub mod WithinLemmas
-mod QueriesCross
+pub mod QueriesCross

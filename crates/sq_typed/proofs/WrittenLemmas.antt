@@ -27,7 +27,7 @@ use Rattle.sq_ast.specs.declared.statement.Body.{Body}
 use Rattle.sq_ast.specs.declared.statement.Statement.{Statement}
 use Rattle.sq_catalog.specs.declared.relation.Column.{Column}
 use Rattle.sq_catalog.specs.declared.relation.Relation.{Relation}
-use Rattle.sq_expr.proofs.Lists.{all_back, all_append, all_flattened, all_weaker}
+use Rattle.sq_expr.proofs.Lists.{all_append, all_back, all_flattened, all_over, all_weaker}
 use Rattle.sq_typed.specs.Faults.{described}
 use Rattle.sq_typed.specs.Leaves.{Leaf, Plain, Called, leaves, call_at, exprs_in, exprs_of}
 use Rattle.sq_typed.specs.Programs.{catalog_of}
@@ -217,10 +217,6 @@ written_together (p ∷ ps) h =
       blocks = all_append IsWritten p.blocks (flat_map (λ p. p.blocks) ps) h.0.blocks later.blocks;
       operations = all_append (λ o. has_member o ≡ true) p.operations (flat_map (λ p. p.operations) ps) h.0.operations later.operations;
     }
-
-all_over : {A B : Type 0} (P : B → Type 0) (f : A → B) (xs : List A) → AllByRecursion (λ x. P (f x)) xs → AllByRecursion P (map f xs)
-all_over P f [] h = tt
-all_over P f (x ∷ xs) h = (h.0, all_over P f xs h.1)
 
 module _ (relations : List Relation) where
   abbrev Good : Resolved → Type 0

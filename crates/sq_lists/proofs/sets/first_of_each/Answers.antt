@@ -3,7 +3,7 @@ use Rattle.std.proofs.lemmas.Option.{slice_get_read}
 use Rattle.sq_value.specs.Order.{row_cmp}
 use Rattle.sq_value.specs.OrderLaws.{row_cmp-total}
 use Rattle.sq_algebra.specs.Listed.{count, first_of_each}
-use Rattle.sq_lists.proofs.Loops.{take_more}
+use Rattle.sq_expr.proofs.Lists.{take_more}
 use Rattle.sq_lists.proofs.Repeats.{first_grown, one_of_none}
 use Rattle.sq_lists.proofs.sets.first_of_each.Goals as goal
 

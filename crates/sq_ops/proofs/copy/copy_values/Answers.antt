@@ -1,5 +1,5 @@
 use Rattle.std.proofs.Common.{◌∙◌, ap₂, sym, ◌++◌, ◌∷◌, []}
-use Rattle.sq_ops.proofs.Lists.{take_more}
+use Rattle.sq_expr.proofs.Lists.{take_more}
 use Rattle.sq_ops.proofs.copy.copy_values.Goals as goal
 
 pub loop-i-preserved : goal.loop-i-preserved

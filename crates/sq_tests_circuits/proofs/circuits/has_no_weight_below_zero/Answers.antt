@@ -2,8 +2,7 @@ use Rattle.std.proofs.Common.{◌≤◌, ◌≤ℤ◌, ℤ, List, ◌∷◌, [],
 use Rattle.std.specs.List.{AllByRecursion}
 use Rattle.std.proofs.lemmas.List.Elements.{All-from_recursion}
 use Rattle.sq_algebra.specs.ZSet.{entries}
-use Rattle.sq_expr.proofs.Lists.{all_append}
-use Rattle.sq_ops.proofs.Lists.{take_more}
+use Rattle.sq_expr.proofs.Lists.{all_append, take_more}
 use Rattle.sq_value.specs.declared.value.Value.{Value}
 use Rattle.sq_tests_circuits.proofs.circuits.has_no_weight_below_zero.Goals as goal
 

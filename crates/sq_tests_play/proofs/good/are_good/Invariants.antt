@@ -1,7 +1,0 @@
-use Rattle.std.proofs.Common.{ℕ, ◌<◌}
-use Rattle.sq_tests_play.specs.Tables.{FitsNode}
-use Rattle.sq_tests_play.proofs.good.are_good.Given as goal
-
--- the nodes so far fit
-abbrev pub invariant-loop-i : goal.invariant-loop-i
-invariant-loop-i l = (j : ℕ) → j < l.i → FitsNode l.circuit l.tables j
