@@ -14,11 +14,12 @@ use Rattle.sq_typed.specs.From.{Row, Answer}
 use Rattle.sq_typed.specs.Laws.{AreOfWidth}
 use Rattle.sq_typed.specs.Queries.{intersect_rows, set_rows}
 use Rattle.sq_typed.proofs.AnswerLemmas.{all_first, intersect_rows_width, set_rows_width}
+use Rattle.sq_circuit.specs.Nodes.{paired}
 use Rattle.sq_bridge.specs.Joins.{same_rows}
 use Rattle.sq_bridge.specs.Meaning.{AreMembersOf, AreStepsOf, Holds, IsMemberOf, IsStepOf}
 use Rattle.sq_bridge.specs.Nodes.{Node}
 use Rattle.sq_bridge.specs.Queries.{both_of, chain_node, set_result, step_node}
-use Rattle.sq_bridge.specs.Rows.{listed, paired}
+use Rattle.sq_bridge.specs.Rows.{listed}
 use Rattle.sq_bridge.proofs.LeftJoining.{same_on}
 
 -- ---- one step

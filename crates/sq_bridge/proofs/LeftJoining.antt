@@ -21,8 +21,9 @@ use Rattle.sq_typed.specs.From.{all_hold, matches, or_padded, outer}
 use Rattle.sq_typed.specs.Laws.{AreOfWidth}
 use Rattle.sq_typed.proofs.AnswerLemmas.{all_first}
 use Rattle.sq_typed.proofs.Tests.{every}
+use Rattle.sq_circuit.specs.Nodes.{paired}
 use Rattle.sq_bridge.specs.Joins.{first_columns, has_no_pair, joined_on, left_joined, same_rows, unpaired}
-use Rattle.sq_bridge.specs.Rows.{Rows, listed, padded_by, paired, projected}
+use Rattle.sq_bridge.specs.Rows.{Rows, listed, padded_by, projected}
 use Rattle.sq_bridge.proofs.Joining.{all_is, joins, loops_as, loops_on, pair_if}
 use Rattle.sq_bridge.proofs.Lists.{filter_of_map, flat_map_agree}
 

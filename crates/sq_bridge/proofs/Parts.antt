@@ -23,10 +23,11 @@ use Rattle.sq_expr.proofs.Rows.{length_of_kinds}
 use Rattle.sq_ops.specs.Rows.{Row, items_of}
 use Rattle.sq_ast.specs.declared.query.SetOp.TheVariants.{Except}
 use Rattle.sq_typed.proofs.Tests.{every}
+use Rattle.sq_circuit.specs.Nodes.{paired}
 use Rattle.sq_bridge.specs.Joins.{first_columns, same_rows, unpaired}
 use Rattle.sq_bridge.specs.Parts.{IsNoMoreThan, IsOfWidth}
 use Rattle.sq_bridge.specs.Queries.{both_of, set_result}
-use Rattle.sq_bridge.specs.Rows.{Rows, paired, projected}
+use Rattle.sq_bridge.specs.Rows.{Rows, projected}
 use Rattle.sq_bridge.proofs.Joining.{joins}
 use Rattle.sq_bridge.proofs.LeftJoining.{if_same, same_pair}
 use Rattle.sq_bridge.proofs.Lists.{flat_map_agree}

@@ -11,10 +11,11 @@ use Rattle.sq_typed.specs.From.{Row, Answer, Source, all_hold, inner, joined_by,
 use Rattle.sq_typed.specs.Laws.{AreOfWidth, HasItsWidth, last_of, width_of_all}
 use Rattle.sq_typed.proofs.Tests.{all_filter, every, filter_same, list_all-append}
 use Rattle.sq_typed.proofs.WhereLemmas.{joined_width, members_hold, stage_keeps, where_keeps_the_last}
+use Rattle.sq_circuit.specs.Nodes.{paired}
 use Rattle.sq_bridge.specs.Joins.{joined_on, left_joined}
 use Rattle.sq_bridge.specs.Meaning.{AreWorth, Holds, IsWorth, IsWorthSource}
 use Rattle.sq_bridge.specs.Nodes.{Node, NodeSource, first_node, joined_node, next_node, node_widths, nodes_from, on_members, stage_rows}
-use Rattle.sq_bridge.specs.Rows.{kept_on_all, listed, paired}
+use Rattle.sq_bridge.specs.Rows.{kept_on_all, listed}
 use Rattle.sq_bridge.proofs.Joining.{first_kept, kept_all, pairs_on}
 use Rattle.sq_bridge.proofs.LeftJoining.{left_on}
 use Rattle.sq_bridge.proofs.Lists.{flat_map_agree}

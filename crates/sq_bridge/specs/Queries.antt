@@ -11,10 +11,11 @@ use Rattle.sq_typed.specs.declared.query.Origin.TheFolds.{fold-Query, fold-FromI
 use Rattle.sq_typed.specs.declared.query.Origin.TheOpen.{Query-F, SetStep-F, Block-F, FromItem-F, Origin-F}
 use Rattle.sq_typed.specs.declared.query.Query.{Query}
 use Rattle.sq_typed.specs.declared.query.SetStep.{SetStep}
+use Rattle.sq_circuit.specs.Nodes.{paired}
 use Rattle.sq_bridge.specs.Groups.{block_node}
 use Rattle.sq_bridge.specs.Joins.{same_rows}
 use Rattle.sq_bridge.specs.Nodes.{Node, NodeSource, lists_too_many, no_node}
-use Rattle.sq_bridge.specs.Rows.{Rows, paired}
+use Rattle.sq_bridge.specs.Rows.{Rows}
 
 -- ---- set operations
 

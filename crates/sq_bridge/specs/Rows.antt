@@ -1,5 +1,5 @@
 -- What the operators of sq_ops make of Z-sets of rows.
---     listed rows        the Z-set of a list of rows.      kept_on c z, projected es z, padded_by n z, paired op y z      the operators
+--     listed rows        the Z-set of a list of rows.      kept_on c z, projected es z, padded_by n z      the operators
 use Rattle.std.specs.Prelude.{ℕ, List, [], ◌∷◌}
 use Rattle.sq_value.specs.Order.{row_cmp}
 use Rattle.sq_algebra.specs.Operators.{image}
@@ -10,7 +10,6 @@ use Rattle.sq_expr.specs.declared.expr.Expr.{Expr}
 use Rattle.sq_ops.specs.declared.bilinear.Pairing.{Pairing}
 use Rattle.sq_expr.specs.declared.expr.Kind.{Kind}
 use Rattle.sq_ops.specs.JoinLaws.{SuitsPairing}
-use Rattle.sq_ops.specs.Joins.{chosen, joined, key_in}
 use Rattle.sq_ops.specs.Rows.{Row, items_of, kept, padded}
 
 abbrev pub Rows : Type 0
@@ -20,7 +19,7 @@ Rows = ZSet Row row_cmp
 abbrev pub listed : List Row → Rows
 listed rows = of_list row_cmp rows
 
--- what Keep, Project, Pad and a Pairing make of Z-sets
+-- what Keep, Project and Pad make of Z-sets
 abbrev pub kept_on : Cond → Rows → Rows
 kept_on c z = image row_cmp (kept c) z
 
@@ -29,9 +28,6 @@ projected es z = image row_cmp (λ row. items_of es row ∷ []) z
 
 abbrev pub padded_by : ℕ → Rows → Rows
 padded_by n z = image row_cmp (λ row. padded n row ∷ []) z
-
-abbrev pub paired : Pairing → Rows → Rows → Rows
-paired op y z = joined (key_in op.left op.nulls_match) (key_in op.right op.nulls_match) (chosen op.keep op.items) y z
 
 -- the rows on which all of some conditions are True
 abbrev pub kept_on_all : List Cond → Rows → Rows

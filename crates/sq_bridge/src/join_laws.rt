@@ -5,8 +5,9 @@ ghost use Rattle.sq_algebra.specs.Operators.{meet};
 ghost use Rattle.sq_expr.specs.declared.cond.Cond.{Cond as Condition};
 ghost use Rattle.sq_typed.specs.From.{Row, inner, outer};
 ghost use Rattle.sq_typed.specs.Laws.{AreOfWidth};
+ghost use Rattle.sq_circuit.specs.Nodes.{paired};
 ghost use Rattle.sq_bridge.specs.Joins.{IsKeyOf, has_no_pair, joined_on, key_of, left_joined, same_rows, unpaired_on};
-ghost use Rattle.sq_bridge.specs.Rows.{kept_on_all, listed, paired};
+ghost use Rattle.sq_bridge.specs.Rows.{kept_on_all, listed};
 
 /// The pairs of two lists on which some conditions are True, as a `Pairing` by the keys among the conditions.
 #[tactic(auto, using(crate::proofs::Joining::pairs_on))]

@@ -6,10 +6,11 @@ ghost use Rattle.sq_algebra.specs.ZSet.{entries, minus, weight};
 ghost use Rattle.sq_ast.specs.declared.query.SetOp.TheVariants.{Except};
 ghost use Rattle.sq_expr.specs.Kinds.{AreOfKinds};
 ghost use Rattle.sq_expr.specs.declared.expr.Kind.{Kind as ColumnKind};
+ghost use Rattle.sq_circuit.specs.Nodes.{paired};
 ghost use Rattle.sq_bridge.specs.Joins.{first_columns, same_rows, unpaired};
 ghost use Rattle.sq_bridge.specs.Parts.{IsNoMoreThan, IsOfWidth};
 ghost use Rattle.sq_bridge.specs.Queries.{both_of, set_result};
-ghost use Rattle.sq_bridge.specs.Rows.{Rows, paired, projected};
+ghost use Rattle.sq_bridge.specs.Rows.{Rows, projected};
 
 /// Rows of some kinds have as many columns as there are kinds.
 #[tactic(auto, using(crate::proofs::Parts::kinds_are_wide))]

@@ -17,7 +17,8 @@ use Rattle.sq_lines.specs.declared.line.Line.{Line}
 use Rattle.sq_lines.specs.declared.line.Line.TheVariants as line
 use Rattle.sq_lines.specs.declared.line.Why.{Why}
 use Rattle.sq_value.specs.declared.value.Value.TheVariants.{Text}
-use Rattle.sq_lines.specs.Cells.{is_null, holds_nothing, is_number, is_unlike, is_in_range, number_outside, number_cell, value_of, cell, has_wrong_type, is_out_of_range, is_missing}
+use Rattle.sq_expr.specs.Meaning as meaning
+use Rattle.sq_lines.specs.Cells.{is_null, is_number, is_unlike, is_in_range, number_outside, number_cell, value_of, cell, has_wrong_type, is_out_of_range, is_missing}
 use Rattle.sq_catalog.specs.Sorts.{tables_of}
 use Rattle.sq_lines.specs.Tables.{Numbered, table_named, table_meant}
 use Rattle.sq_lines.specs.Lines.{decoded, json_line, json_of, object_line, asks_commit, table_line, operation_line, row_line, cells_line, is_blank_byte, longest_line}
@@ -81,14 +82,14 @@ number_kept kind.Integer x like inside = let below : nat_lt x (2 ^ 63) ≡ true 
 number_kept kind.Bigint x like inside = inside
 number_kept kind.Text x like inside = absurd (cc like)
 
-number_held : (k : Kind) (n : Num) → is_unlike k (Some (number n)) ≡ false → number_outside k (Some (number n)) ≡ false → holds_nothing (value_of (Some (number n))) ≡ false
-number_held k (unsigned x) like inside = ap (λ b. holds_nothing (number_cell (if b then Some (pos x) else None))) (number_kept k x like (not_not _ inside))
+number_held : (k : Kind) (n : Num) → is_unlike k (Some (number n)) ≡ false → number_outside k (Some (number n)) ≡ false → meaning.is_null (value_of (Some (number n))) ≡ false
+number_held k (unsigned x) like inside = ap (λ b. meaning.is_null (number_cell (if b then Some (pos x) else None))) (number_kept k x like (not_not _ inside))
 number_held k (negative z) like inside = refl
 number_held kind.Integer (float x) like inside = like
 number_held kind.Bigint (float x) like inside = like
 number_held kind.Text (float x) like inside = like
 
-pub value_held : (k : Kind) (m : Option Data) → is_unlike k m ≡ false → number_outside k m ≡ false → holds_nothing (value_of m) ≡ is_null m
+pub value_held : (k : Kind) (m : Option Data) → is_unlike k m ≡ false → number_outside k m ≡ false → meaning.is_null (value_of m) ≡ is_null m
 value_held k None like inside = refl
 value_held k (Some null) like inside = refl
 value_held k (Some (boolean b)) like inside = like
@@ -97,7 +98,7 @@ value_held k (Some (string s)) like inside = refl
 value_held k (Some (array items)) like inside = like
 value_held k (Some (object ms)) like inside = like
 
-pub cell_held : (row : Data) (c : Column) → has_wrong_type row c ≡ false → is_out_of_range row c ≡ false → holds_nothing (cell row c) ≡ is_null (get c.name row)
+pub cell_held : (row : Data) (c : Column) → has_wrong_type row c ≡ false → is_out_of_range row c ≡ false → meaning.is_null (cell row c) ≡ is_null (get c.name row)
 cell_held row c like inside = value_held c.kind (get c.name row) like inside
 
 -- ---- tables

@@ -69,8 +69,3 @@ value_of _ = Null
 
 abbrev pub cell : Data → Column → Value
 cell row c = value_of (get c.name row)
-
-abbrev pub holds_nothing : Value → Bool
-holds_nothing Null = true
-holds_nothing (Int x) = false
-holds_nothing (Text t) = false

@@ -9,7 +9,8 @@ ghost use Rattle.sq_typed.specs.declared.update.Update.{Update as TableUpdate};
 ghost use Rattle.sq_lines.specs.declared.line.Line.TheVariants as line;
 ghost use Rattle.sq_lines.specs.declared.line.Why.{Why as Cause};
 ghost use Rattle.sq_lines.specs.Cutting.{answer, answers, cut_after, ended, fed, kept, last_line, lines_of, raw_lines, uncut};
-ghost use Rattle.sq_lines.specs.Cells.{cell, has_wrong_type, holds_nothing, is_null, is_out_of_range};
+ghost use Rattle.sq_expr.specs.Meaning as meaning;
+ghost use Rattle.sq_lines.specs.Cells.{cell, has_wrong_type, is_null, is_out_of_range};
 ghost use Rattle.sq_lines.specs.Fit.{UpdateFits};
 ghost use Rattle.sq_lines.specs.Lines.{decoded, is_commit, says_commit};
 
@@ -27,7 +28,7 @@ pub fn lines_number()
 
 /// No value is lost: if no rule on a column refuses the row, its cell is NULL exactly when the column's member is missing or `null`.
 pub fn values_are_kept()
-    ensures { (row : Data) (c : CatalogColumn) → has_wrong_type row c ≡ false → is_out_of_range row c ≡ false → holds_nothing (cell row c) ≡ is_null (get c.name row) }
+    ensures { (row : Data) (c : CatalogColumn) → has_wrong_type row c ≡ false → is_out_of_range row c ≡ false → meaning.is_null (cell row c) ≡ is_null (get c.name row) }
 {}
 
 /// Whatever pieces bytes come in, what a new cutter answers to them one after the other, with the line that is left at the end, is the lines

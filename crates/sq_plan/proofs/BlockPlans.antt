@@ -5,6 +5,7 @@ use Rattle.std.specs.List.{AllByRecursion, flat_map, list_all, list_any}
 use Rattle.std.proofs.Math.Bool.{or_assoc}
 use Rattle.std.proofs.Common.{append_assoc}
 use Rattle.std.proofs.lemmas.List.{length-append}
+use Rattle.sq_bridge.specs.Small.{AreFewGroups}
 use Rattle.sq_bridge.specs.Groups.{block_node}
 use Rattle.sq_bridge.specs.Nodes.{Node, NodeSource}
 use Rattle.sq_bridge.specs.Queries.{origin_node, query_node, source_node}
@@ -22,7 +23,7 @@ use Rattle.sq_typed.proofs.FitEquations.{kinded-Block, kinded_source-is}
 use Rattle.sq_typed.proofs.FitTests.{items_suit, sources_suit, where_suits}
 use Rattle.sq_typed.proofs.SourceLemmas.{query-Block}
 use Rattle.sq_typed.proofs.Tests.{and_left, and_right}
-use Rattle.sq_plan.specs.Blocks.{CanJoin, HasFewGroups, block_kinds, block_over, kinded_sources}
+use Rattle.sq_plan.specs.Blocks.{CanJoin, block_kinds, block_over, kinded_sources}
 use Rattle.sq_plan.specs.Drafts.{CanAdd, IsNode, blames, kinds_of}
 use Rattle.sq_plan.specs.Plans.{CanPlan, CanPlanItems, InFrom, IsSourceOf, Itself, OriginFits, Plans, PlansItems, items_sources, relation_kinds, relation_nodes}
 use Rattle.sq_plan.specs.Steps.{Becomes, sources_of}
@@ -125,7 +126,7 @@ module _ (d : Draft) (nodes : List ℕ) (b : Block) (can : CanPlan d nodes (quer
         subst (λ ks. may_group ks (out-Block b).grouping ≡ true) (sym flat_is)
         (and_left (may_group (joined_kinds kinded_items) (out-Block b).grouping) listed (and_right (may_suit (joined_kinds kinded_items) (out-Block b).filter) (may_group (joined_kinds kinded_items) (out-Block b).grouping && listed) clauses))
 
-    pub block_narrow : HasFewGroups (out-Block b).grouping
+    pub block_narrow : AreFewGroups (out-Block b).grouping
     block_narrow = (can.narrow (query.Block b) (Itself (query.Block b))).grouped b refl
 
     pub block_items : AllByRecursion (Suits (item_row_kinds (flat_map (kinds_of e) found) (out-Block b).grouping)) (out-Block b).items

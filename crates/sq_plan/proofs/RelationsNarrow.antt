@@ -3,7 +3,7 @@ use Rattle.std.proofs.Common.{◌≡◌, ℕ, zero, suc, ◌*◌, ◌<◌, ◌�
 use Rattle.std.specs.Prelude.{Option, Some, None, slice_get, ⊤}
 use Rattle.std.specs.List.{AllByRecursion}
 use Rattle.std.proofs.lemmas.List.{length-append, length-map}
-use Rattle.sq_bridge.specs.Small.{AreFewGroups, HasSmallBlocks}
+use Rattle.sq_bridge.specs.Small.{HasSmallBlocks}
 use Rattle.sq_expr.specs.declared.expr.Kind.{Kind}
 use Rattle.sq_typed.specs.Fit.{Kinded, KindedSource, item_row_kinds, joined_kinds, kinded, kinded_origin, kinded_source, kinds_given, relation_kinded, source_kinds}
 use Rattle.sq_typed.specs.Numbered.{kind_of}
@@ -21,7 +21,6 @@ use Rattle.sq_typed.specs.declared.query.SetStep.{SetStep}
 use Rattle.sq_typed.proofs.FitEquations.{kinded-Block, kinded-Chain, kinded-Intersect, kinded-Query, kinded-Relation, kinded_source-is}
 use Rattle.sq_typed.proofs.FitQueries.{length_widest}
 use Rattle.sq_typed.proofs.Trees.{each_origin, each_query}
-use Rattle.sq_plan.specs.Blocks.{HasFewGroups}
 use Rattle.sq_plan.specs.Plans.{HasFewColumns, IsNarrow, PartOf, Itself, InFrom, First, Later, Member}
 use Rattle.sq_plan.specs.ProgramWalk.{IsNarrowKinds}
 
@@ -106,15 +105,11 @@ module _ (kss : List (List Kind)) (narrow : AllByRecursion IsNarrowKinds kss) wh
         omega (arith, few, sources_few (out-Block b).sources (λ n s at. origin_few n s at (every_origin s.source)))
 
   -- ---- all that stands in a query
-  few_groups : (g : Option Grouping) → AreFewGroups g → HasFewGroups g
-  few_groups None h = tt
-  few_groups (Some g) h = h
-
   few_columns : (r : Query) → HasSmallBlocks r → HasFewColumns kss r
   few_columns r h = record {
     given = omega (arith, few_given r h);
     joined = λ b is. joined_few b (subst HasSmallBlocks is h);
-    grouped = λ b is. few_groups (out-Block b).grouping ((subst HasSmallBlocks is h) b (within.It b)).groups;
+    grouped = λ b is. ((subst HasSmallBlocks is h) b (within.It b)).groups;
   }
 
   part_small : (q r : Query) → PartOf q r → HasSmallBlocks q → HasSmallBlocks r

@@ -12,13 +12,12 @@ use Rattle.sq_ops.specs.declared.bilinear.Pairing.{Pairing}
 use Rattle.sq_bridge.specs.Joins.{same_rows}
 use Rattle.sq_bridge.specs.Nodes.{lists_too_many}
 use Rattle.sq_bridge.specs.Parts.{IsNoMoreThan, IsOfWidth}
-use Rattle.sq_bridge.specs.Rows.{paired}
 use Rattle.sq_bridge.proofs.Parts.{found_part, kinds_are_wide, rest_part}
 use Rattle.sq_circuit.specs.Circuits.{has_fault, is_sound, kinds_in}
 use Rattle.sq_circuit.specs.Gives.{AreWithin}
 use Rattle.sq_circuit.specs.Invariant.{AreEarlier, HasKinds, IsGood, IsListed, table_count}
 use Rattle.sq_circuit.specs.Listed.{HasList}
-use Rattle.sq_circuit.specs.Nodes.{Rows}
+use Rattle.sq_circuit.specs.Nodes.{Rows, paired}
 use Rattle.sq_circuit.specs.declared.circuit.Part.{Part}
 use Rattle.sq_circuit.specs.declared.node.Node.TheVariants.{Table, Join, Minus}
 use Rattle.sq_circuit.proofs.Alongside.{got_front}

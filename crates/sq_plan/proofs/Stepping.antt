@@ -10,8 +10,8 @@ use Rattle.sq_expr.specs.declared.expr.Kind.{Kind}
 use Rattle.sq_bridge.specs.Joins.{same_rows}
 use Rattle.sq_bridge.specs.Nodes.{Node, lists_too_many}
 use Rattle.sq_bridge.specs.Queries.{both_of, set_result, step_node}
-use Rattle.sq_bridge.specs.Rows.{kept_on_all, padded_by, paired}
-use Rattle.sq_circuit.specs.Nodes.{Rows}
+use Rattle.sq_bridge.specs.Rows.{kept_on_all, padded_by}
+use Rattle.sq_circuit.specs.Nodes.{Rows, paired}
 use Rattle.sq_circuit.specs.declared.node.LinearOp.TheVariants.{Keep, Pad}
 use Rattle.sq_circuit.specs.Gives.{AreWithin}
 use Rattle.sq_circuit.specs.declared.circuit.Part.{Part}

@@ -6,6 +6,7 @@
 use Rattle.std.specs.Prelude.{◌≡◌, ℕ, ◌+◌, ◌*◌, ◌<◌, ◌≤◌, ◌^◌, true, ◌||◌, List, ◌++◌, length, map, slice_get, Option, Some, None}
 use Rattle.std.specs.List.{AllByRecursion, list_any}
 use Rattle.sq_ast.specs.Sources.{sum}
+use Rattle.sq_bridge.specs.Small.{AreFewGroups}
 use Rattle.sq_bridge.specs.Nodes.{Node}
 use Rattle.sq_bridge.specs.Queries.{both_of, origin_node, query_node, relation_node}
 use Rattle.sq_circuit.specs.Invariant.{table_count}
@@ -21,7 +22,6 @@ use Rattle.sq_typed.specs.declared.query.Query.TheVariants as query
 use Rattle.sq_typed.specs.declared.query.SetStep.{SetStep}
 use Rattle.sq_typed.specs.Fit.{Fits, Pairwise, are_matched, kinded_origin, kinds_given, source_kinds}
 use Rattle.sq_typed.specs.Sources.{origin_sources, query_sources}
-use Rattle.sq_plan.specs.Blocks.{HasFewGroups}
 use Rattle.sq_plan.specs.Drafts.{CanAdd, IsDraft, IsNode, IsOwnedBy, blames, kinds_of}
 use Rattle.sq_plan.specs.Steps.{Becomes, node_of, set_kinds, set_of}
 use Rattle.sq_plan.specs.declared.draft.Draft.{Draft}
@@ -37,7 +37,7 @@ pub data PartOf : Query → Query → Type 0 where
 pub record HasFewColumns (kinds : List (List Kind)) (r : Query) : Type 0 where
   pub given : length (kinds_given kinds r) < 2 ^ 32
   pub joined : (b : Block) → r ≡ query.Block b → length (source_kinds kinds b) < 2 ^ 32
-  pub grouped : (b : Block) → r ≡ query.Block b → HasFewGroups (out-Block b).grouping
+  pub grouped : (b : Block) → r ≡ query.Block b → AreFewGroups (out-Block b).grouping
 
 abbrev pub IsNarrow : List (List Kind) → Query → Type 0
 IsNarrow kinds q = (r : Query) → PartOf q r → HasFewColumns kinds r

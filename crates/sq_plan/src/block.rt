@@ -1,9 +1,10 @@
 //! A block: its sources joined, its groups, its items, and each row once if repeats are to go.
 ghost use Rattle.std.specs.Prelude.{◌≡◌, ◌*◌, ◌+◌, IfOk, length, map, true};
 ghost use Rattle.std.specs.List.{AllByRecursion, flat_map};
+ghost use Rattle.sq_bridge.specs.Small.{AreFewGroups};
 ghost use Rattle.sq_bridge.specs.Groups.{once_node, selected_node};
 ghost use Rattle.sq_expr.specs.Fits.{Suits};
-ghost use Rattle.sq_plan.specs.Blocks.{CanJoin, HasFewGroups, block_kinds, block_over};
+ghost use Rattle.sq_plan.specs.Blocks.{CanJoin, block_kinds, block_over};
 ghost use Rattle.sq_plan.specs.Drafts.{CanAdd, IsNode, kinds_of as kinds_in};
 ghost use Rattle.sq_plan.specs.Keyed.{IsJoinOfSource, NewJoins, NoJoin, widths_of};
 ghost use Rattle.sq_plan.specs.Steps.{Becomes, node_of};
@@ -66,7 +67,7 @@ impl Draft {
         requires room { CanAdd (8 * length (out-Block block.now).sources + 5) self.old }
         requires joins { let b = out-Block block.now in CanJoin self.old sources.now b.sources b.filter }
         requires groups { may_group (flat_map (kinds_in self.old) sources.now) (out-Block block.now).grouping ≡ true }
-        requires narrow { HasFewGroups (out-Block block.now).grouping }
+        requires narrow { AreFewGroups (out-Block block.now).grouping }
         requires items { let b = out-Block block.now in AllByRecursion (Suits (item_row_kinds (flat_map (kinds_in self.old) sources.now) b.grouping)) b.items }
         ensures adds { let many = length (out-Block block.now).sources in
             IfOk result (λ i. Becomes (8 * many + 5) self.old self.new i (block_kinds self.old sources.now block.now) (block_over self.old sources.now block.now)) }

@@ -1,8 +1,8 @@
 //! Groups: what is projected for them, and how it is grouped.
 ghost use Rattle.std.specs.Prelude.{◌≡◌, ◌++◌, ◌+◌, ◌<◌, ◌^◌, IfOk, OnOk, Some as Is, length, option_to_list, true};
+ghost use Rattle.sq_bridge.specs.Small.{AreFewGroups};
 ghost use Rattle.sq_bridge.specs.Groups.{behind, calls_from, group_items, group_spec, item_node, slot};
 ghost use Rattle.sq_plan.specs.Drafts.{CanAdd, IsNode, kinds_of};
-ghost use Rattle.sq_plan.specs.Blocks.{HasFewGroups};
 ghost use Rattle.sq_plan.specs.Keyed.{NewJoins, NoJoin};
 ghost use Rattle.sq_plan.specs.Steps.{Becomes, node_of};
 ghost use Rattle.sq_typed.specs.Fit.{grouped_kinds, grouping_fits, item_row_kinds, may_group};
@@ -145,7 +145,7 @@ impl Draft {
         requires room { CanAdd 3 self.old }
         requires low { IsNode self.old input }
         requires fits { may_group (kinds_of self.old input) grouping.now ≡ true }
-        requires narrow { HasFewGroups grouping.now }
+        requires narrow { AreFewGroups grouping.now }
         ensures adds { IfOk result (λ i. Becomes 3 self.old self.new i (item_row_kinds (kinds_of self.old input) grouping.now) (λ tables. item_node grouping.now (node_of self.old tables input))) }
         ensures keyed { IfOk result (λ i. NewJoins self.old self.new NoJoin) }
     {
