@@ -32,13 +32,13 @@ use Rattle.sq_sample.proofs.Making.{by_parity, no_tables_yet, ticks_make, with_r
 small : (n : ℕ) → n < 2 ^ 31 → FitsSigned w32 (pos n)
 small n low = record { sfits = low }
 
-d_row_fits : (k : ℕ) → k < 2 ^ 31 → AreOfKinds (d_row k) d_kinds
+pub d_row_fits : (k : ℕ) → k < 2 ^ 31 → AreOfKinds (d_row k) d_kinds
 d_row_fits k low = (small k low, (small (k % 10) (let few : k % 10 < 10 = mod-lt k (omega arith) in omega arith), tt))
 
 thousand : (n : ℕ) → FitsSigned w32 (pos (n % 1000))
 thousand n = small (n % 1000) (let few : n % 1000 < 1000 = mod-lt n (omega arith) in omega arith)
 
-row_from_fits : (x i : ℕ) → i < 2 ^ 31 → AreOfKinds (row_from x i) e_kinds
+pub row_from_fits : (x i : ℕ) → i < 2 ^ 31 → AreOfKinds (row_from x i) e_kinds
 row_from_fits x i low = (small i low, (thousand (drawn (next x)), (thousand (drawn (next (next x))), tt)))
 
 -- ---- the updates fit a circuit with the tables of the sample
@@ -80,12 +80,12 @@ all_of_kinds c [] h = tt
 all_of_kinds c (u ∷ us) h = (h.0.1, all_of_kinds c us h.1)
 
 -- ---- how many rows there are
-many_d : (n : ℕ) → length (d_rows n) ≡ n
+pub many_d : (n : ℕ) → length (d_rows n) ≡ n
 unfolding d_rows
 many_d zero = refl
 many_d (suc n) = length-append (d_rows n) _ ∙ (let more = many_d n in omega arith)
 
-many_e : (x low n : ℕ) → length (e_rows x low n) ≡ n
+pub many_e : (x low n : ℕ) → length (e_rows x low n) ≡ n
 unfolding e_rows
 many_e x low zero = refl
 many_e x low (suc n) = length-append (e_rows x low n) _ ∙ (let more = many_e x low n in omega arith)

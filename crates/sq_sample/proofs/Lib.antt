@@ -1,3 +1,5 @@
 mod Counting
 mod Making
 mod Accepting
+mod Ranges
+mod Compiling

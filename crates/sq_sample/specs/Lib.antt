@@ -2,3 +2,4 @@ pub mod Numbers
 pub mod Ticks
 pub mod Kept
 pub mod Accepted
+pub mod Printed

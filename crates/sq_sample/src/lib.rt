@@ -3,10 +3,9 @@
 
 mod generator;
 pub mod laws;
-mod program;
 mod ticks;
 
-pub use program::PROGRAM;
+pub use sq_meant::PROGRAM;
 pub use ticks::SampleTicks;
 
 fn is_send_and_sync<T: Send + Sync>() {}

@@ -1,0 +1,23 @@
+-- What the run of the sample prints at its end.
+--     rows_line name n        the line of a view that lists n rows
+--     sample_text seed t      after t ticks for a seed, each of which was accepted: their number, and how many rows each view lists
+use Rattle.std.specs.Prelude.{ℕ, List, ◌++◌, codes, decimal, length, map}
+use Rattle.std.specs.List.{flat_map, zip}
+use Rattle.json.specs.Print.{quoted}
+use Rattle.sq_catalog.specs.Sorts.{views_of}
+use Rattle.sq_typed.specs.Views.{shown}
+use Rattle.sq_meant.specs.Program.{program, relations}
+use Rattle.sq_sample.specs.Ticks.{tables_after}
+
+abbrev pub ticks_line : ℕ → ℕ → List ℕ
+ticks_line seed t = codes "{\"sample\":" ++ (decimal seed ++ (codes ",\"ticks\":" ++ (decimal t ++ (codes ",\"accepted\":" ++ (decimal t ++ codes "}\n")))))
+
+abbrev pub rows_line : List ℕ → ℕ → List ℕ
+rows_line name n = codes "{\"view\":" ++ (quoted name ++ (codes ",\"rows\":" ++ (decimal n ++ codes "}\n")))
+
+-- how many rows each view lists over the tables after t ticks
+abbrev pub rows_listed : ℕ → ℕ → List ℕ
+rows_listed seed t = map (λ rows. length rows) (shown program (tables_after seed t))
+
+abbrev pub sample_text : ℕ → ℕ → List ℕ
+sample_text seed t = ticks_line seed t ++ flat_map (λ line. rows_line line.0.name line.1) (zip (views_of relations) (rows_listed seed t))
