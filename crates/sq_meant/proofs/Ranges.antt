@@ -33,22 +33,22 @@ abbrev e_kinds : List Kind
 e_kinds = Integer ∷ Integer ∷ Integer ∷ []
 
 -- ---- what the views group by, and their items
-abbrev of_totals : Option Grouping
+abbrev pub of_totals : Option Grouping
 of_totals = grouped [] (count_all ∷ call Sum 2 ∷ []) None
 
-abbrev of_keys : Option Grouping
+abbrev pub of_keys : Option Grouping
 of_keys = grouped (1 ∷ []) (count_all ∷ call Min 2 ∷ call Max 2 ∷ []) None
 
-abbrev of_groups : Option Grouping
+abbrev pub of_groups : Option Grouping
 of_groups = grouped (4 ∷ []) (call Sum 2 ∷ []) None
 
-abbrev one_column : ℕ → List Expr
+abbrev pub one_column : ℕ → List Expr
 one_column i = expr.Column i ∷ []
 
-abbrev two_columns : List Expr
+abbrev pub two_columns : List Expr
 two_columns = expr.Column 0 ∷ expr.Column 1 ∷ []
 
-abbrev four_columns : List Expr
+abbrev pub four_columns : List Expr
 four_columns = expr.Column 0 ∷ expr.Column 1 ∷ expr.Column 2 ∷ expr.Column 3 ∷ []
 
 one : (i : ℕ) → AllByRecursion IsColumn (one_column i)
@@ -70,37 +70,37 @@ groups_grouped : AreGrouped of_groups
 groups_grouped = ((2, refl), tt)
 
 -- ---- the answers of the views
-abbrev table_source : FromJoin → ℕ → List Row → Source
+abbrev pub table_source : FromJoin → ℕ → List Row → Source
 table_source join width rows = record { join = join; answer = relation_answer (record { width = width; rows = rows }) }
 
 module _ (d e : List Row) where
-  abbrev only_e : List Source
+  abbrev pub only_e : List Source
   only_e = table_source Comma 3 e ∷ []
 
-  abbrev e_and_d : List Source
+  abbrev pub e_and_d : List Source
   e_and_d = table_source Comma 3 e ∷ table_source (Inner (equal 1 3)) 2 d ∷ []
 
-  abbrev d_and_e : List Source
+  abbrev pub d_and_e : List Source
   d_and_e = table_source Comma 2 d ∷ table_source (Left (equal 0 3)) 3 e ∷ []
 
   -- the relations: the two tables, and what views come before
-  abbrev behind_tables : List Contents → List Contents
+  abbrev pub behind_tables : List Contents → List Contents
   behind_tables others = record { width = 2; rows = d } ∷ record { width = 3; rows = e } ∷ others
 
-  totals_are : (others : List Contents) → answer (behind_tables others) meant.totals ≡ block_answer false only_e None of_totals two_columns
+  pub totals_are : (others : List Contents) → answer (behind_tables others) meant.totals ≡ block_answer false only_e None of_totals two_columns
   totals_are others = simp (answers, out-roll-Block) refl
 
-  by_key_are : (others : List Contents) → answer (behind_tables others) meant.by_key
+  pub by_key_are : (others : List Contents) → answer (behind_tables others) meant.by_key
       ≡ block_answer false only_e None of_keys four_columns
   by_key_are others = simp (answers, out-roll-Block) refl
 
-  by_group_are : (others : List Contents) → answer (behind_tables others) meant.by_group ≡ block_answer false e_and_d None of_groups two_columns
+  pub by_group_are : (others : List Contents) → answer (behind_tables others) meant.by_group ≡ block_answer false e_and_d None of_groups two_columns
   by_group_are others = simp (answers, out-roll-Block) refl
 
-  unused_are : (others : List Contents) → answer (behind_tables others) meant.unused ≡ block_answer false d_and_e (Some (cond.Null (expr.Column 2) false)) None (one_column 0)
+  pub unused_are : (others : List Contents) → answer (behind_tables others) meant.unused ≡ block_answer false d_and_e (Some (cond.Null (expr.Column 2) false)) None (one_column 0)
   unused_are others = simp (answers, out-roll-Block) refl
 
-  seen_are : (others : List Contents) → answer (behind_tables others) meant.seen ≡ block_answer true only_e None None (one_column 2)
+  pub seen_are : (others : List Contents) → answer (behind_tables others) meant.seen ≡ block_answer true only_e None None (one_column 2)
   seen_are others = simp (answers, out-roll-Block) refl
 
 -- ---- they are in range

@@ -3,3 +3,4 @@ mod Making
 mod Accepting
 mod Ranges
 mod Compiling
+mod Printing

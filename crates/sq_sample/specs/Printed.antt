@@ -1,6 +1,7 @@
 -- What the run of the sample prints at its end.
 --     rows_line name n        the line of a view that lists n rows
 --     sample_text seed t      after t ticks for a seed, each of which was accepted: their number, and how many rows each view lists
+--     before_any_tick         the text for the seed 7 before any tick, written out
 use Rattle.std.specs.Prelude.{ℕ, List, ◌++◌, codes, decimal, length, map}
 use Rattle.std.specs.List.{flat_map, zip}
 use Rattle.json.specs.Print.{quoted}
@@ -21,3 +22,7 @@ rows_listed seed t = map (λ rows. length rows) (shown program (tables_after see
 
 abbrev pub sample_text : ℕ → ℕ → List ℕ
 sample_text seed t = ticks_line seed t ++ flat_map (λ line. rows_line line.0.name line.1) (zip (views_of relations) (rows_listed seed t))
+
+abbrev pub before_any_tick : List ℕ
+before_any_tick = codes "{\"sample\":7,\"ticks\":0,\"accepted\":0}\n{\"view\":\"totals\",\"rows\":1}\n{\"view\":\"by_key\",\"rows\":0}\n"
+    ++ codes "{\"view\":\"by_group\",\"rows\":0}\n{\"view\":\"unused\",\"rows\":0}\n{\"view\":\"seen\",\"rows\":0}\n"

@@ -1,5 +1,5 @@
 //! What holds of the sample, each as the contract of a function that does nothing.
-ghost use Rattle.std.specs.Prelude.{◌≡◌, ◌≤◌, ◌+◌, ℕ, List, None, Some, pos, slice_get};
+ghost use Rattle.std.specs.Prelude.{◌≡◌, ◌≤◌, ◌+◌, ℕ, List, None, Some, length, pos, slice_get};
 ghost use Rattle.std.specs.declared.result.Result.TheVariants.{Ok as Made, Err as Lacking};
 ghost use Rattle.sq_algebra.specs.ZSet.{total};
 ghost use Rattle.sq_circuit.specs.Circuits.{verdict, whole};
@@ -15,7 +15,7 @@ ghost use Rattle.sq_meant.specs.Text.{program_text};
 ghost use Rattle.sq_plan.specs.Program.{IsPlanOf};
 ghost use Rattle.sq_print.specs.declared.program_fault.ProgramFault.{ProgramFault};
 ghost use Rattle.sq_sample.specs.Accepted.{IsBehind};
-ghost use Rattle.sq_sample.specs.Printed.{rows_listed};
+ghost use Rattle.sq_sample.specs.Printed.{before_any_tick, rows_listed, sample_text};
 ghost use Rattle.sq_sample.specs.Ticks.{tables_after, tick};
 ghost use Rattle.sq_typed.specs.Tables.{after};
 ghost use Rattle.sq_typed.specs.Views.{Meant, verdict as program_verdict};
@@ -59,7 +59,14 @@ pub fn no_tick_is_out_of_range()
 {}
 
 /// In a plan of the program each view node has as many rows, counted with their weights, as the view lists over the tables after the ticks.
-#[tactic(auto, using(crate::proofs::Ranges::rows_counted))]
+#[tactic(auto, using(crate::proofs::Ranges::rows_counted, crate::proofs::Printing::five_views))]
 pub fn view_nodes_count_the_rows()
-    ensures { (c : List Part) (seed t v n : ℕ) → t ≤ 1000001 → IsPlanOf program c → slice_get (rows_listed seed t) v ≡ Some n → total (whole c (in_z_sets (tables_after seed t)) (view_node c v)) ≡ pos n }
+    ensures many { (seed t : ℕ) → length (rows_listed seed t) ≡ 5 }
+    ensures rows { (c : List Part) (seed t v n : ℕ) → t ≤ 1000001 → IsPlanOf program c → slice_get (rows_listed seed t) v ≡ Some n → total (whole c (in_z_sets (tables_after seed t)) (view_node c v)) ≡ pos n }
+{}
+
+/// What the run prints, on an example: no ticks, over tables without rows.
+#[tactic(auto, using(crate::proofs::Printing::printed_before))]
+pub fn what_is_printed_before_any_tick()
+    ensures { sample_text 7 0 ≡ before_any_tick }
 {}
