@@ -1,6 +1,6 @@
 -- Blocks over small tables: no place lists many rows, and no tested value is a great number.
 --     most n sources        the product of n and of one more than the rows of each source: no place lists more rows
-use Rattle.std.proofs.Common.{◌≡◌, ℕ, zero, suc, ◌+◌, ◌*◌, ◌≤◌, ◌^◌, pos, negsuc, List, [], ◌∷◌, ◌++◌, map, fold, filter, length, replicate, Bool, false, not, ◌||◌, refl, sym, ap, subst, ◌∙◌, arith}
+use Rattle.std.proofs.Common.{◌≡◌, ℕ, zero, suc, ◌+◌, ◌*◌, ◌≤◌, ◌^◌, pos, negsuc, List, [], ◌∷◌, ◌++◌, map, fold, filter, length, replicate, Bool, true, false, not, ◌||◌, refl, sym, ap, subst, ◌∙◌, arith}
 use Rattle.std.specs.Prelude.{Option, Some, None, ⊤, ◌+ℤ◌}
 use Rattle.std.specs.List.{AllByRecursion, flat_map, list_any}
 use Rattle.std.specs.Ordering.{is_eq}
@@ -24,7 +24,7 @@ use Rattle.sq_typed.specs.declared.query.BlockCall.{BlockCall}
 use Rattle.sq_typed.specs.declared.query.FromJoin.{FromJoin}
 use Rattle.sq_typed.specs.declared.query.FromJoin.TheVariants.{Comma, Inner, Left}
 use Rattle.sq_typed.specs.declared.query.Grouping.{Grouping}
-use Rattle.sq_typed.specs.Blocks.{arguments, block_answer, call_value, group_row, groups, is_sum, item_rows, present, selected, sum_or_null, tested_calls}
+use Rattle.sq_typed.specs.Blocks.{arguments, block_answer, call_value, group_row, groups, is_sum, item_rows, present, selected, sum_or_null, tested_calls, without_repeats}
 use Rattle.sq_typed.specs.Fit.{Pairwise}
 use Rattle.sq_typed.specs.From.{Row, Answer, Source, all_hold, from, inner, joined_by, kept, matches, members_at, members_of, or_padded, stage, stages, stages_from, widths_of}
 use Rattle.sq_typed.specs.Queries.{has_range_fault, is_crowded, is_outside}
@@ -324,3 +324,43 @@ block_in_range distinct ss kinds filter grouping items small over are =
     (all_append IsInside (tested_calls grouping rows) (flat_map (λ row. row) (selected items (item_rows grouping rows))) (calls_inside grouping rows over few up)
     (selected_inside items (item_rows grouping rows) are (item_rows_up_to grouping rows over few up)))) in
     ap (λ b. b || list_any is_outside (flat_map (λ s. s.answer.tested) ss ++ tested_calls grouping rows ++ flat_map (λ row. row) (selected items (item_rows grouping rows)))) places ∙ tested
+
+-- ---- how many rows a block lists
+
+first_fewer : (rows : List Row) → length (first_of_each row_cmp rows) ≤ length rows
+first_fewer [] = omega arith
+first_fewer (row ∷ rows) =
+    let fewer = length_filter (λ r. not (is_eq (row_cmp row r))) (first_of_each row_cmp rows) in
+    let later = first_fewer rows in
+    omega arith
+
+groups_few : (columns : List ℕ) (rows : List Row) → length (groups columns rows) ≤ suc (length rows)
+groups_few [] rows = omega arith
+groups_few (c ∷ cs) rows =
+    let keys = first_of_each row_cmp (map (columns_of (c ∷ cs)) rows) in
+    let as_keys : length (groups (c ∷ cs) rows) ≡ length keys = length_mapped {A = Row} {B = Row × List Row} (λ k. (k, filter (λ row. is_eq (row_cmp k (columns_of (c ∷ cs) row))) rows)) keys in
+    let once = first_fewer (map (columns_of (c ∷ cs)) rows) in
+    let all = length_mapped (columns_of (c ∷ cs)) rows in
+    omega arith
+
+item_rows_few : (grouping : Option Grouping) (rows : List Row) → length (item_rows grouping rows) ≤ suc (length rows)
+item_rows_few None rows = omega arith
+item_rows_few (Some g) rows =
+    let kept = length_filter (all_hold (members_of g.having)) (map (group_row g.calls) (groups g.columns rows)) in
+    let all = length_mapped (group_row g.calls) (groups g.columns rows) in
+    let few = groups_few g.columns rows in
+    omega arith
+
+repeats_few : (distinct : Bool) (rows : List Row) → length (without_repeats distinct rows) ≤ length rows
+repeats_few true rows = first_fewer rows
+repeats_few false rows = omega arith
+
+pub block_lists_few : (distinct : Bool) (ss : List Source) (filter : Option Cond) (grouping : Option Grouping) (items : List Expr) → most 1 ss ≤ 2 ^ 27
+    → length (block_answer distinct ss filter grouping items).rows ≤ 2 ^ 28
+block_lists_few distinct ss filter grouping items few =
+    let rows = item_rows grouping (kept (members_of filter) ss) in
+    let all = kept_few (members_of filter) ss in
+    let grouped = item_rows_few grouping (kept (members_of filter) ss) in
+    let chosen = length_mapped (λ row. map (λ e. num e row) items) rows in
+    let once = repeats_few distinct (selected items rows) in
+    omega arith

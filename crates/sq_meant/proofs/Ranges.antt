@@ -1,5 +1,5 @@
 -- No view of the program is out of range over small tables.
-use Rattle.std.proofs.Common.{◌≡◌, ℕ, suc, ◌+◌, ◌*◌, ◌≤◌, ◌^◌, List, [], ◌∷◌, length, Bool, true, false, cond, refl, sym, ap, ◌∙◌, arith}
+use Rattle.std.proofs.Common.{◌≡◌, ℕ, suc, ◌+◌, ◌*◌, ◌≤◌, ◌^◌, List, [], ◌∷◌, length, Bool, true, false, cond, refl, sym, subst, ap, ◌∙◌, arith}
 use Rattle.std.specs.Prelude.{Option, Some, None}
 use Rattle.std.specs.List.{AllByRecursion, position, position_or_len}
 use Rattle.std.proofs.lemmas.List.Recursion.{is_position_or_len}
@@ -19,12 +19,12 @@ use Rattle.sq_typed.specs.Blocks.{block_answer}
 use Rattle.sq_typed.specs.Examples.{call, count_all, equal, grouped}
 use Rattle.sq_typed.specs.From.{Row, Answer, Source}
 use Rattle.sq_typed.specs.Queries.{Contents, answer, has_range_fault, relation_answer}
-use Rattle.sq_typed.specs.Views.{verdict, views}
+use Rattle.sq_typed.specs.Views.{shown, verdict, views}
 use Rattle.sq_typed.proofs.Equations.{answers}
 use Rattle.sq_meant.specs.Program as meant
 use Rattle.sq_meant.specs.Program.{program}
 use Rattle.sq_meant.specs.Small.{AreSmall}
-use Rattle.sq_meant.proofs.Bounds.{AreGrouped, AreSmallSources, IsColumn, block_in_range}
+use Rattle.sq_meant.proofs.Bounds.{AreGrouped, AreSmallSources, IsColumn, block_in_range, block_lists_few}
 
 abbrev d_kinds : List Kind
 d_kinds = Integer ∷ Integer ∷ []
@@ -162,6 +162,29 @@ module _ (d e : List Row) (small : AreSmall d e) where
   all_fine : AllByRecursion IsFine (views program (d ∷ e ∷ []))
   unfolding views
   all_fine = (totals_fine _, (by_key_fine _, (by_group_fine _, (unused_fine _, (seen_fine _, tt)))))
+
+  -- ---- and they list few rows
+  abbrev ListsFew : Answer → Type 0
+  ListsFew a = length a.rows ≤ 2 ^ 28
+
+  totals_few : (others : List Contents) → ListsFew (answer (behind_tables d e others) meant.totals)
+  totals_few others = subst ListsFew (sym (totals_are d e others)) (block_lists_few false (only_e d e) None of_totals two_columns only_e_small.few)
+
+  by_key_few : (others : List Contents) → ListsFew (answer (behind_tables d e others) meant.by_key)
+  by_key_few others = subst ListsFew (sym (by_key_are d e others)) (block_lists_few false (only_e d e) None of_keys four_columns only_e_small.few)
+
+  by_group_few : (others : List Contents) → ListsFew (answer (behind_tables d e others) meant.by_group)
+  by_group_few others = subst ListsFew (sym (by_group_are d e others)) (block_lists_few false (e_and_d d e) None of_groups two_columns e_and_d_small.few)
+
+  unused_few : (others : List Contents) → ListsFew (answer (behind_tables d e others) meant.unused)
+  unused_few others = subst ListsFew (sym (unused_are d e others)) (block_lists_few false (d_and_e d e) (Some (cond.Null (expr.Column 2) false)) None (one_column 0) d_and_e_small.few)
+
+  seen_few : (others : List Contents) → ListsFew (answer (behind_tables d e others) meant.seen)
+  seen_few others = subst ListsFew (sym (seen_are d e others)) (block_lists_few true (only_e d e) None None (one_column 2) only_e_small.few)
+
+  pub few_listed : AllByRecursion (λ rows. length rows ≤ 2 ^ 28) (shown program (d ∷ e ∷ []))
+  unfolding views
+  few_listed = (totals_few _, (by_key_few _, (by_group_few _, (unused_few _, (seen_few _, tt)))))
 
 pub in_range : (d e : List Row) → AreSmall d e → verdict program (d ∷ e ∷ []) ≡ None
 unfolding verdict

@@ -23,7 +23,7 @@ use Rattle.sq_engine.specs.Admitting.{in_z_sets}
 use Rattle.sq_engine.specs.Engines.{State, begun, fresh, moved, no_tables, view_node, with_changes}
 use Rattle.sq_meant.specs.Program.{program, relations}
 use Rattle.sq_meant.specs.Small.{AreSmall, IsUpTo}
-use Rattle.sq_meant.proofs.Ranges.{in_range}
+use Rattle.sq_meant.proofs.Ranges.{few_listed, in_range}
 use Rattle.sq_sample.specs.Accepted.{HasTables, IsBehind, d_kinds, e_kinds}
 use Rattle.sq_sample.specs.Numbers.{d_row, drawn, e_row, next, state_at}
 use Rattle.sq_sample.specs.Printed.{rows_listed}
@@ -77,6 +77,11 @@ pub tables_in_range : (x t : ℕ) → t ≤ 1000001 → typed.verdict program (t
 tables_in_range x t few =
     after_ticks (λ ts. typed.verdict program ts ≡ None) no_rows_in_range
     (λ x first n low few. in_range (d_rows 1010) (e_rows x first n) (rows_are_small x first n low few)) x t few
+
+pub views_list_few : (x t : ℕ) → t ≤ 1000001 → AllByRecursion (λ rows. length rows ≤ 2 ^ 28) (typed.shown program (tables_after x t))
+views_list_few x t few =
+    after_ticks (λ ts. AllByRecursion (λ rows. length rows ≤ 2 ^ 28) (typed.shown program ts)) (few_listed [] [] nothing_is_small)
+    (λ x first n low few. few_listed (d_rows 1010) (e_rows x first n) (rows_are_small x first n low few)) x t few
 
 pub tables_of_kinds : (x t : ℕ) → t ≤ 1000001 → TablesAreOfKinds (tables_after x t) relations
 tables_of_kinds x t few =

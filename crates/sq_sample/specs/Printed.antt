@@ -1,8 +1,10 @@
 -- What the run of the sample prints at its end.
 --     rows_line name n        the line of a view that lists n rows
 --     sample_text seed t      after t ticks for a seed, each of which was accepted: their number, and how many rows each view lists
+--     counts seed t           how many rows each view lists after t ticks, as whole numbers
+--     raised ns rises         numbers, each with what it grows by
 --     before_any_tick         the text for the seed 7 before any tick, written out
-use Rattle.std.specs.Prelude.{ℕ, List, ◌++◌, codes, decimal, length, map}
+use Rattle.std.specs.Prelude.{ℕ, ℤ, pos, ◌+ℤ◌, List, [], ◌∷◌, ◌++◌, codes, decimal, length, map}
 use Rattle.std.specs.List.{flat_map, zip}
 use Rattle.json.specs.Print.{quoted}
 use Rattle.sq_catalog.specs.Sorts.{views_of}
@@ -22,6 +24,14 @@ rows_listed seed t = map (λ rows. length rows) (shown program (tables_after see
 
 abbrev pub sample_text : ℕ → ℕ → List ℕ
 sample_text seed t = ticks_line seed t ++ flat_map (λ line. rows_line line.0.name line.1) (zip (views_of relations) (rows_listed seed t))
+
+abbrev pub counts : ℕ → ℕ → List ℤ
+counts seed t = map (λ n. pos n) (rows_listed seed t)
+
+-- each number with what it grows by
+abbrev pub raised : List ℤ → List ℤ → List ℤ
+raised (n ∷ ns) (m ∷ ms) = (n +ℤ m) ∷ raised ns ms
+raised ns ms = []
 
 abbrev pub before_any_tick : List ℕ
 before_any_tick = codes "{\"sample\":7,\"ticks\":0,\"accepted\":0}\n{\"view\":\"totals\",\"rows\":1}\n{\"view\":\"by_key\",\"rows\":0}\n"

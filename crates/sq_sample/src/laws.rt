@@ -1,6 +1,7 @@
 //! What holds of the sample, each as the contract of a function that does nothing.
-ghost use Rattle.std.specs.Prelude.{◌≡◌, ◌≤◌, ◌+◌, ℕ, List, None, Some, length, pos, slice_get};
+ghost use Rattle.std.specs.Prelude.{◌≡◌, ◌≤◌, ◌+◌, ℕ, List, None, Some, length, map, pos, slice_get, ◌^◌};
 ghost use Rattle.std.specs.declared.result.Result.TheVariants.{Ok as Made, Err as Lacking};
+ghost use Rattle.std.specs.List.{AllByRecursion};
 ghost use Rattle.sq_algebra.specs.ZSet.{total};
 ghost use Rattle.sq_circuit.specs.Circuits.{verdict, whole};
 ghost use Rattle.sq_circuit.specs.Nodes.{Rows};
@@ -9,13 +10,13 @@ ghost use Rattle.sq_compile.specs.Programs.{IsProgramOf, TextFault, TextStops};
 ghost use Rattle.sq_compile.specs.declared.texts.CompileFault.{CompileFault};
 ghost use Rattle.sq_compile.specs.declared.texts.CompileFault.TheVariants.{Memory};
 ghost use Rattle.sq_engine.specs.Admitting.{MayAdmit, in_z_sets, made};
-ghost use Rattle.sq_engine.specs.Engines.{State, begun, fresh, moved, no_tables, view_node, with_changes};
+ghost use Rattle.sq_engine.specs.Engines.{State, begun, fresh, moved, no_tables, view_node, views_over, with_changes};
 ghost use Rattle.sq_meant.specs.Program.{program};
 ghost use Rattle.sq_meant.specs.Text.{program_text};
 ghost use Rattle.sq_plan.specs.Program.{IsPlanOf};
 ghost use Rattle.sq_print.specs.declared.program_fault.ProgramFault.{ProgramFault};
-ghost use Rattle.sq_sample.specs.Accepted.{IsBehind};
-ghost use Rattle.sq_sample.specs.Printed.{before_any_tick, rows_listed, sample_text};
+ghost use Rattle.sq_sample.specs.Accepted.{IsBehind, rises};
+ghost use Rattle.sq_sample.specs.Printed.{before_any_tick, counts, raised, rows_listed, sample_text};
 ghost use Rattle.sq_sample.specs.Ticks.{tables_after, tick};
 ghost use Rattle.sq_typed.specs.Tables.{after};
 ghost use Rattle.sq_typed.specs.Views.{Meant, verdict as program_verdict};
@@ -58,11 +59,19 @@ pub fn no_tick_is_out_of_range()
     ensures tick { (s : State) (seed t : ℕ) (delta : List Rows) → t ≤ 1000001 → IsPlanOf program s.circuit → IsBehind (moved s delta) seed t → verdict s.circuit (with_changes s.tables delta) ≡ None }
 {}
 
-/// In a plan of the program each view node has as many rows, counted with their weights, as the view lists over the tables after the ticks.
-#[tactic(auto, using(crate::proofs::Ranges::rows_counted, crate::proofs::Printing::five_views))]
+/// In a plan of the program each view node has as many rows, counted with their weights, as the view lists over the tables after the ticks:
+/// five numbers, each at most 2^28.
+#[tactic(auto, using(crate::proofs::Ranges::rows_counted, crate::proofs::Printing::five_views, crate::proofs::Printing::few_rows))]
 pub fn view_nodes_count_the_rows()
     ensures many { (seed t : ℕ) → length (rows_listed seed t) ≡ 5 }
+    ensures few { (seed t : ℕ) → t ≤ 1000001 → AllByRecursion (λ n. n ≤ 2 ^ 28) (rows_listed seed t) }
     ensures rows { (c : List Part) (seed t v n : ℕ) → t ≤ 1000001 → IsPlanOf program c → slice_get (rows_listed seed t) v ≡ Some n → total (whole c (in_z_sets (tables_after seed t)) (view_node c v)) ≡ pos n }
+{}
+
+/// The totals of the changes that an engine over a plan of the program gives, at its start and at each tick, add up to how many rows each view lists.
+pub fn changes_count_the_rows()
+    ensures start { (c : List Part) (seed : ℕ) → IsPlanOf program c → map total (views_over c (no_tables c)) ≡ counts seed 0 }
+    ensures tick { (s : State) (seed t : ℕ) (d : List Rows) → t ≤ 1000000 → IsPlanOf program s.circuit → IsBehind s seed t → IsBehind (moved s d) seed (t + 1) → raised (counts seed t) (rises s d) ≡ counts seed (t + 1) }
 {}
 
 /// What the run prints, on an example: no ticks, over tables without rows.
