@@ -1,6 +1,6 @@
 -- Going through the views of a program, one after the other, beside their changes.
 use Rattle.std.proofs.Common.{◌≡◌, ℕ, zero, suc, ◌+◌, ◌<◌, ◌≤◌, List, [], ◌∷◌, ◌++◌, length, get_or, take, drop, true, false, Option, Some, None, refl, sym, ap, ap₂, subst, ◌∙◌, arith, append-nil, append_assoc}
-use Rattle.std.specs.Prelude.{ℤ, slice_get, option_map, IfSome, MatchOption}
+use Rattle.std.specs.Prelude.{slice_get, option_map, IfSome, MatchOption}
 use Rattle.std.specs.List.{HoldsAt, flat_map, zip}
 use Rattle.std.proofs.lemmas.Grind.{flat_map-append}
 use Rattle.std.proofs.lemmas.List.{take_more}
@@ -16,7 +16,7 @@ abbrev pub Rows : Type 0
 Rows = ZSet (List Value) row_cmp
 
 -- one more text behind others
-pub text_more : (f : List Value × ℤ → List ℕ) (es : List (List Value × ℤ)) (i : ℕ) (e : List Value × ℤ) → slice_get es i ≡ Some e
+pub text_more : {X : Type 0} (f : X → List ℕ) (es : List X) (i : ℕ) (e : X) → slice_get es i ≡ Some e
     → flat_map f (take i es) ++ f e ≡ flat_map f (take (i + 1) es)
 text_more f es i e at =
     sym (ap (flat_map f) (take_more es i e (slice_get_within es i e at) ∙ ap (λ x. take i es ++ x ∷ []) (get_or_from_slice_get es i e e at))

@@ -1,3 +1,4 @@
 pub mod Texts
+pub mod Catalogues
 pub mod FaultTexts
 pub mod Commas

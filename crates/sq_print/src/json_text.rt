@@ -80,8 +80,8 @@ fn push_members(
     Ok(())
 }
 
-// Appends the comma in front of the member with this number.
-fn push_comma(out: &mut Vec<u8>, number: usize) -> Result<(), NoMemory>
+/// Appends the comma in front of the member with this number.
+pub fn push_comma(out: &mut Vec<u8>, number: usize) -> Result<(), NoMemory>
     ensures { OnOk result (out.new.items ≡ out.old.items ++ comma_before number) }
 {
     if number > 0 {

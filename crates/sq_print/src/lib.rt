@@ -1,4 +1,5 @@
-//! The texts that the program prints: the blocks of ticks, the lines of refused ones, and the line of a program's fault.
+//! The texts that the program prints: the blocks of ticks, the lines of refused ones, the line of a program's fault, and those of its
+//! relations.
 #![tactic(auto)]
 
 mod blocks;
@@ -7,12 +8,14 @@ mod json_text;
 mod program_fault;
 mod refusal;
 mod refusals;
+mod relations;
 
 pub use blocks::block_text;
 pub use fault_lines::fault_text;
 pub use program_fault::ProgramFault;
 pub use refusal::Refusal;
 pub use refusals::refusal_text;
+pub use relations::relation_lines;
 
 fn is_send_and_sync<T: Send + Sync>() {}
 
