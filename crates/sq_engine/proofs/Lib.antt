@@ -6,3 +6,9 @@ pub mod Admitted
 pub mod Counting
 pub mod Absent
 pub mod FromLists
+pub mod Putting
+pub mod Fitted
+pub mod Totalling
+pub mod Readied
+pub mod Ordered
+pub mod Spent

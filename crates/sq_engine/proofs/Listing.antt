@@ -1,14 +1,14 @@
--- Lists by number: parts that pass a test, counted; the last members; tables with their changes.
-use Rattle.std.proofs.Common.{◌≡◌, ℕ, zero, suc, ◌+◌, ◌-◌, ◌<◌, ◌≤◌, Bool, true, false, cond, List, [], ◌∷◌, ◌++◌, length, get_or, take, drop, ◌+ℤ◌, Some, refl, sym, ap, ap₂, ◌∙◌, arith}
+-- Lists by number: parts that pass a test are not more than all; members by number; tables with their changes.
+use Rattle.std.proofs.Common.{◌≡◌, ℕ, zero, suc, ◌+◌, ◌-◌, ◌<◌, ◌≤◌, Bool, true, false, cond, List, [], ◌∷◌, ◌++◌, length, get_or, ◌+ℤ◌, Some, refl, sym, ap, ap₂, ◌∙◌, arith}
 use Rattle.std.specs.Prelude.{slice_get}
 use Rattle.std.specs.List.{filter}
-use Rattle.std.proofs.lemmas.List.{drop-append-le, drop_all, get_or_default}
+use Rattle.std.proofs.lemmas.List.{get_or_default}
 use Rattle.std.proofs.lemmas.Option.{same_Some}
 use borrow.Author.Differences.{ints}
 use Rattle.sq_algebra.specs.ZSet.{plus, weight}
 use Rattle.sq_zset.proofs.Rows.{same_weights, weight-plus, weight-zero}
 use Rattle.sq_circuit.specs.Along.{each_below}
-use Rattle.sq_circuit.specs.Circuits.{node_at, table_at}
+use Rattle.sq_circuit.specs.Circuits.{table_at}
 use Rattle.sq_circuit.specs.Nodes.{Rows, none}
 use Rattle.sq_circuit.specs.declared.circuit.Part.{Part}
 use Rattle.sq_circuit.specs.declared.node.Node.{Node}
@@ -25,38 +25,6 @@ module _ (test : Node → Bool) where
     | true ↦ let rest = none_past c in omega arith
     | false ↦ let rest = none_past c in omega arith
   ]
-
-  in_front : (p : Part) (b : Bool) → test p.node ≡ b → (c : List Part) → passing (p ∷ c) ≡ passing c + cond b 1 0
-  in_front p true is c = ap (λ b. length (cond b (p ∷ filter (λ p. test p.node) c) (filter (λ p. test p.node) c))) is ∙ omega arith
-  in_front p false is c = ap (λ b. length (cond b (p ∷ filter (λ p. test p.node) c) (filter (λ p. test p.node) c))) is ∙ omega arith
-
-  one_more : (c : List Part) (i : ℕ) (n : Node) → node_at c i ≡ Some n → passing (take (suc i) c) ≡ passing (take i c) + cond (test n) 1 0
-  one_more [] i n is = absurd (cc is)
-  one_more (p ∷ c) zero n is = let same : p.node ≡ n = same_Some p.node n is in in_front p (test n) (ap test same) []
-  one_more (p ∷ c) (suc i) n is =
-      let rest = one_more c i n is in
-      let now = in_front p (test p.node) refl (take (suc i) c) in
-      let before = in_front p (test p.node) refl (take i c) in
-      omega arith
-
-  -- how many of the first parts pass, with one more
-  pub counted : (c : List Part) (i : ℕ) (n : Node) (b : Bool) (count : ℕ) → node_at c i ≡ Some n → b ≡ test n → count ≡ passing (take i c) → count + cond b 1 0 ≡ passing (take (i + 1) c)
-  counted c i n b count at is told =
-      let next : i + 1 ≡ suc i = omega arith in
-      ap₂ (λ m b. m + cond b 1 0) told is ∙ sym (one_more c i n at) ∙ sym (ap (λ m. passing (take m c)) next)
-
--- ---- the last members
-last_shown : {A : Type 0} (f : ℕ → A) (m n k : ℕ) → n ≡ m + k → drop m (each_below f n) ≡ each_below (λ v. f (m + v)) k
-last_shown f m n zero is = drop_all m (each_below f n) (let long = each-length f n in omega arith)
-last_shown f m n (suc k) is =
-    let all : n ≡ suc (m + k) = omega arith in
-    let long = each-length f (m + k) in
-    ap (λ l. drop m (each_below f l)) all
-    ∙ drop-append-le m (each_below f (m + k)) (f (m + k) ∷ []) (omega arith)
-    ∙ ap (λ xs. xs ++ f (m + k) ∷ []) (last_shown f m (m + k) k refl)
-
-pub last_values : {A : Type 0} (f : ℕ → A) (n k : ℕ) → k ≤ n → drop (n - k) (each_below f n) ≡ each_below (λ v. f (n - k + v)) k
-last_values f n k low = last_shown f (n - k) n k (omega arith)
 
 -- ---- members by number
 pub each_same : {A : Type 0} (f g : ℕ → A) (n : ℕ) → ((i : ℕ) → i < n → f i ≡ g i) → each_below f n ≡ each_below g n

@@ -6,8 +6,8 @@
 --     views_over c tables         the Z-set of each view over these tables
 --     views_between c old new     what each view has over new tables, less what it has over old ones
 --     fresh, begun, moved         an engine that has not started; one that has, over tables without rows; one behind a tick
---     IsKept s views              what an engine keeps, with what its views have
-use Rattle.std.specs.Prelude.{◌≡◌, ℕ, ◌+◌, ◌-◌, Bool, true, false, List, length, None, refl}
+--     IsKept s states totals      what an engine keeps, with the states of its shards and the totals of its nodes
+use Rattle.std.specs.Prelude.{◌≡◌, ℕ, ◌+◌, ◌-◌, ◌<◌, ◌≤◌, ◌^◌, ℤ, pos, Bool, true, false, List, length, replicate, None, refl}
 use Rattle.std.specs.Coded.{Coded, code_by, coded×, coded_bool, coded_ℕ}
 use Rattle.sq_algebra.specs.ZSet.{minus, plus}
 use Rattle.sq_circuit.specs.Along.{each_below}
@@ -15,6 +15,9 @@ use Rattle.sq_circuit.specs.Circuits.{table_at, verdict, whole}
 use Rattle.sq_circuit.specs.Invariant.{IsGood, table_count, view_count}
 use Rattle.sq_circuit.specs.Nodes.{Rows, none}
 use Rattle.sq_circuit.specs.declared.circuit.Part.{Part}
+use Rattle.sq_states.specs.Empty.{empty_states}
+use Rattle.sq_states.specs.declared.kept.NodeState.{NodeState}
+use Rattle.sq_incr.specs.Ready.{Keeps}
 
 pub record State : Type 0 where
   pub circuit : List Part
@@ -55,9 +58,15 @@ begun s = record { circuit = s.circuit; started = true; tables = no_tables s.cir
 abbrev pub moved : State → List Rows → State
 moved s changes = record { circuit = s.circuit; started = true; tables = with_changes s.tables changes; shards = s.shards }
 
--- the tables are good; before the start they have no rows, and later no view is out of range over them
-pub record IsKept (s : State) (views : List Rows) : Type 0 where
+-- the tables are good; before the start they have no rows and the states are empty, and later no view is out of range over them
+-- and the states keep them
+pub record IsKept (s : State) (states : List (List NodeState)) (totals : List ℤ) : Type 0 where
+  pub some : 0 < length states
+  pub few : length states ≤ 64
+  pub nodes : length s.circuit < 2 ^ 26
   pub good : IsGood s.circuit s.tables
   pub empty : s.started ≡ false → s.tables ≡ no_tables s.circuit
+  pub fresh_states : s.started ≡ false → states ≡ replicate (length states) (empty_states s.circuit)
+  pub fresh_totals : s.started ≡ false → totals ≡ replicate (length s.circuit) (pos 0)
   pub sound : s.started ≡ true → verdict s.circuit s.tables ≡ None
-  pub shown : s.started ≡ true → views ≡ views_over s.circuit s.tables
+  pub keeps : s.started ≡ true → Keeps false s.circuit s.tables states totals

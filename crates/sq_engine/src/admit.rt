@@ -12,7 +12,7 @@ ghost use Rattle.sq_engine.specs.Admitting.{count_at, count_of, made, net, nette
 ghost use Rattle.sq_engine.specs.Engines.{with_changes};
 ghost use Rattle.sq_zset.specs.Pairs.{mass, weighted_rows};
 
-use crate::tables::table_count;
+use sq_base::Steps;
 use sq_circuit::Circuit;
 use sq_typed::Update;
 use sq_value::{NoMemory, Row};
@@ -20,19 +20,23 @@ use sq_zset::{Pair, ZFault, ZSet};
 use std::alloc::Global;
 use std::collections::BTreeMap;
 
-/// The line of the first update that deletes a row of which its table has no copy left then, if there is one.
-pub fn first_absent(
+/// The line of the first update that deletes a row of which its table has no copy left then, if there is one. Each delete takes a
+/// step, in which its row is looked up.
+pub fn first_absent<L>(
     alloc: Global,
     tables: &[ZSet],
     updates: &[Update],
+    steps: &mut Steps<L>,
 ) -> Result<Option<u64>, NoMemory>
     requires { AllByRecursion (λ u. u.table < length tables.now) updates.now }
     ensures none { result ≡ Ok None → made tables.now updates.now ≡ Made (with_changes tables.now (netted (length tables.now) updates.now)) }
     ensures some { (line : ℕ) → result ≡ Ok (Some line) → made tables.now updates.now ≡ Lacking line }
+    ensures cost { steps.new.count ≤ steps.old.count + length updates.now }
+    ensures ledger { steps.new.ledger ≡ steps.old.ledger }
 {
     let mut counts = no_counts(alloc, tables.len())?;
     for update in updates {
-        if is_absent(tables, &counts, update) {
+        if is_absent(tables, &counts, update, steps) {
             return Ok(Some(update.line));
         }
         count(alloc, &mut counts, update)?;
@@ -41,16 +45,24 @@ pub fn first_absent(
 }
 
 // Whether the update deletes a row of which its table, with what is counted, has no copy.
-fn is_absent(tables: &[ZSet], counts: &[BTreeMap<Row, i64>], update: &Update) -> bool
+fn is_absent<L>(
+    tables: &[ZSet],
+    counts: &[BTreeMap<Row, i64>],
+    update: &Update,
+    steps: &mut Steps<L>,
+) -> bool
     requires table { update.now.table < length tables.now }
     requires counted { update.now.table < length counts.now }
     requires small { unsigned_abs (count_at counts.now update.now.table update.now.row) < 2 ^ 62 }
-    ensures { result ≡ (not update.now.insert && not (int_lt (pos 0) (weight update.now.row (table_at tables.now update.now.table) +ℤ count_at counts.now update.now.table update.now.row))) }
+    ensures told { result ≡ (not update.now.insert && not (int_lt (pos 0) (weight update.now.row (table_at tables.now update.now.table) +ℤ count_at counts.now update.now.table update.now.row))) }
+    ensures cost { steps.new.count ≤ steps.old.count + 1 }
+    ensures ledger { steps.new.ledger ≡ steps.old.ledger }
 {
     if update.insert {
         return false;
     }
     let number = update.table as usize;
+    steps.tick();
     tables[number].weight_of(&update.row) + count_of(&counts[number], &update.row) <= 0
 }
 
@@ -124,7 +136,7 @@ pub fn netted(alloc: Global, circuit: &Circuit, updates: &[Update]) -> Result<Ve
     ensures changes { IfOk result (λ changes. changes.items ≡ netted (table_count circuit.now) updates.now) }
     ensures sound { OnOk result (IsCircuit circuit.now) }
 {
-    let tables = table_count(circuit);
+    let tables = circuit.table_count();
     let mut changes = Vec::with_capacity(alloc, tables as usize)?;
     for t in 0..tables {
         changes.push(net(alloc, t, updates)?)?;

@@ -1,16 +1,21 @@
 //! `Engine`: a circuit over tables that change tick by tick.
-ghost use Rattle.std.specs.Prelude.{◌≡◌, ◌<◌, ◌≤◌, ◌^◌, ℕ, length, true, false, None, Some, IfOk, OnOk, OnErr};
+ghost use Rattle.std.specs.Prelude.{◌≡◌, ◌<◌, ◌≤◌, ◌+◌, ◌^◌, ℕ, length, true, false, None, Some, IfOk, OnOk, OnErr};
 ghost use Rattle.std.specs.declared.result.Result.TheVariants.{Ok as Made, Err as Lacking};
 ghost use Rattle.sq_circuit.specs.Circuits.{verdict};
+ghost use Rattle.sq_circuit.specs.Costs.{cost};
 ghost use Rattle.sq_circuit.specs.Invariant.{IsGood};
 ghost use Rattle.sq_engine.specs.Admitting.{MayAdmit, made, netted};
 ghost use Rattle.sq_engine.specs.Engines.{begun, fresh, moved, no_tables, views_between, views_over, with_changes};
 
 use crate::admit::{first_absent, netted};
-use crate::tables::{changed_tables, no_tables};
-use crate::views::{copies, differences, views_over};
+use crate::fresh::{empty_shards, no_totals};
+use crate::ready::commit_all;
+use crate::tables::{changed_tables, fitted, no_tables};
+use crate::tick::{Prepared, prepare_tick};
 use crate::{AdmitRefusal, TickRefusal};
+use sq_base::Steps;
 use sq_circuit::{Changes, Circuit};
+use sq_states::States;
 use sq_typed::Update;
 use sq_value::NoMemory;
 use sq_zset::ZSet;
@@ -45,12 +50,14 @@ pub struct Engine {
     circuit: Circuit,
     started: bool,
     tables: Vec<ZSet>,
-    // What the views have over the tables, once the engine has started.
-    shown: Vec<ZSet>,
-    shards: u32,
+    // What the nodes keep in each shard.
+    states: Vec<States>,
+    // The total of each node.
+    totals: Vec<i128>,
 }
 
 impl Model for Engine {
+    ghost use Rattle.std.specs.Prelude.{length};
     ghost use Rattle.std.specs.Coded.{coded_list};
     ghost use Rattle.sq_circuit.specs.contracts.circuit.Part as part;
     ghost use Rattle.sq_engine.specs.Engines.{IsKept, State, state_code};
@@ -60,9 +67,9 @@ impl Model for Engine {
 
     ghost coded = { state_code (coded_list (part.the_row).coded) (coded_list (zset.the_row).coded) };
 
-    ghost view = { λ e. record { circuit = e.circuit; started = e.started; tables = e.tables.items; shards = e.shards } };
+    ghost view = { λ e. record { circuit = e.circuit; started = e.started; tables = e.tables.items; shards = length e.states.items } };
 
-    ghost invariant = { λ e. IsKept (record { circuit = e.circuit; started = e.started; tables = e.tables.items; shards = e.shards }) e.shown.items };
+    ghost invariant = { λ e. IsKept (record { circuit = e.circuit; started = e.started; tables = e.tables.items; shards = length e.states.items }) e.states.items e.totals.items };
 }
 
 impl Engine {
@@ -75,12 +82,14 @@ impl Engine {
         ensures { IfOk result (λ engine. engine ≡ fresh circuit workers) }
     {
         let tables = no_tables(alloc, &circuit)?;
+        let states = empty_shards(alloc, &circuit, workers)?;
+        let totals = no_totals(alloc, circuit.len())?;
         Ok(Engine {
             circuit,
             started: false,
             tables,
-            shown: Vec::new(alloc),
-            shards: workers,
+            states,
+            totals,
         })
     }
 
@@ -94,18 +103,33 @@ impl Engine {
     /// Starts the engine, which has not started: the changes are what the views have over tables without rows.
     ///
     /// The answer is `Range` exactly if a view is out of range over tables without rows, and names the first; and `Memory`
-    /// when memory runs out. A refused engine is as before.
-    pub fn start(&mut self, alloc: Global) -> Result<Changes, TickRefusal>
+    /// when memory runs out. A refused engine is as before. It takes at most the cost of the start in steps.
+    pub fn start<L>(&mut self, alloc: Global, steps: &mut Steps<L>) -> Result<Changes, TickRefusal>
         requires { self.old.started ≡ false }
         ensures ok { IfOk result (λ changes. changes.views.items ≡ views_over self.old.circuit (no_tables self.old.circuit)) }
         ensures engine { OnOk result (self.new ≡ begun self.old) }
         ensures in_range { OnOk result (verdict self.old.circuit (no_tables self.old.circuit) ≡ None) }
         ensures range { (view : ℕ) → result ≡ Err (TickRefusal.Range view) → verdict self.old.circuit (no_tables self.old.circuit) ≡ Some view }
         ensures refused { OnErr result (self.new ≡ self.old) }
+        ensures cost { steps.new.count ≤ steps.old.count + cost true self.old.circuit (no_tables self.old.circuit) (no_tables self.old.circuit) }
+        ensures ledger { steps.new.ledger ≡ steps.old.ledger }
     {
-        let shown = views_over(alloc, &self.circuit, &self.tables)?;
-        let views = copies(alloc, &shown)?;
-        self.shown = shown;
+        let prepared = prepare_tick(
+            alloc,
+            &self.circuit,
+            &self.states,
+            &self.totals,
+            &self.tables,
+            true,
+            steps,
+        )?;
+        let Prepared {
+            ready,
+            totals,
+            views,
+        } = prepared;
+        commit_all(&mut self.states, ready);
+        self.totals = totals;
         self.started = true;
         Ok(Changes { views })
     }
@@ -114,16 +138,23 @@ impl Engine {
     ///
     /// Each update speaks of a table and has a row of its kinds, and the rows of a table with all that are put into it are at most
     /// 2^61. The answer is `Absent` exactly at the first delete whose row has no copy left among the old rows and the earlier
-    /// updates, with its line; and `Memory` when memory runs out. No table is copied.
-    pub fn admit(&self, alloc: Global, updates: &[Update]) -> Result<Delta, AdmitRefusal>
+    /// updates, with its line; and `Memory` when memory runs out. No table is copied, and at most one step is taken for each update.
+    pub fn admit<L>(
+        &self,
+        alloc: Global,
+        updates: &[Update],
+        steps: &mut Steps<L>,
+    ) -> Result<Delta, AdmitRefusal>
         requires started { self.now.started ≡ true }
         requires fits { MayAdmit self.now updates.now }
         ensures ok { IfOk result (λ delta. delta ≡ netted (length self.now.tables) updates.now) }
         ensures made { IfOk result (λ delta. made self.now.tables updates.now ≡ Made (with_changes self.now.tables delta)) }
         ensures good { IfOk result (λ delta. IsGood self.now.circuit (with_changes self.now.tables delta)) }
         ensures absent { (line : ℕ) → result ≡ Err (AdmitRefusal.Absent line) → made self.now.tables updates.now ≡ Lacking line }
+        ensures cost { steps.new.count ≤ steps.old.count + length updates.now }
+        ensures ledger { steps.new.ledger ≡ steps.old.ledger }
     {
-        if let Some(line) = first_absent(alloc, &self.tables, updates)? {
+        if let Some(line) = first_absent(alloc, &self.tables, updates, steps)? {
             return Err(AdmitRefusal::Absent { line });
         }
         let changes = netted(alloc, &self.circuit, updates)?;
@@ -134,8 +165,14 @@ impl Engine {
     ///
     /// The changes are what each view has over the new tables, less what it had over the old ones. The answer is `Range`
     /// exactly if a view is out of range over the new tables, and names the first; and `Memory` when memory runs out. A
-    /// refused engine is as before.
-    pub fn tick(&mut self, alloc: Global, delta: Delta) -> Result<Changes, TickRefusal>
+    /// refused engine is as before: all is prepared before anything is put in place, and from then on no memory is taken. It takes
+    /// at most the cost of the tick in steps, whatever the number of shards is.
+    pub fn tick<L>(
+        &mut self,
+        alloc: Global,
+        delta: Delta,
+        steps: &mut Steps<L>,
+    ) -> Result<Changes, TickRefusal>
         requires started { self.old.started ≡ true }
         requires good { IsGood self.old.circuit (with_changes self.old.tables delta) }
         ensures ok { IfOk result (λ changes. changes.views.items ≡ views_between self.old.circuit self.old.tables (with_changes self.old.tables delta)) }
@@ -143,12 +180,28 @@ impl Engine {
         ensures in_range { OnOk result (verdict self.old.circuit (with_changes self.old.tables delta) ≡ None) }
         ensures range { (view : ℕ) → result ≡ Err (TickRefusal.Range view) → verdict self.old.circuit (with_changes self.old.tables delta) ≡ Some view }
         ensures refused { OnErr result (self.new ≡ self.old) }
+        ensures cost { steps.new.count ≤ steps.old.count + cost false self.old.circuit self.old.tables delta }
+        ensures ledger { steps.new.ledger ≡ steps.old.ledger }
     {
-        let tables = changed_tables(alloc, &self.tables, &delta.changes)?;
-        let shown = views_over(alloc, &self.circuit, &tables)?;
-        let views = differences(alloc, &shown, &self.shown)?;
+        let changes = fitted(alloc, self.tables.len(), delta.changes)?;
+        let tables = changed_tables(alloc, &self.tables, &changes)?;
+        let prepared = prepare_tick(
+            alloc,
+            &self.circuit,
+            &self.states,
+            &self.totals,
+            &changes,
+            false,
+            steps,
+        )?;
+        let Prepared {
+            ready,
+            totals: sums,
+            views,
+        } = prepared;
+        commit_all(&mut self.states, ready);
+        self.totals = sums;
         self.tables = tables;
-        self.shown = shown;
         Ok(Changes { views })
     }
 }

@@ -3,9 +3,14 @@
 
 mod admit;
 mod engine;
+mod fresh;
 pub mod laws;
+mod order;
+mod ready;
 mod refusal;
 mod tables;
+mod tick;
+mod totals;
 mod views;
 
 pub use engine::{Delta, Engine};

@@ -1,51 +1,22 @@
-//! The tables of a circuit: how many there are, none with rows, and each with its change.
+//! The tables of a circuit: none with rows, and each with its change.
 ghost use Rattle.std.specs.Prelude.{◌≡◌, ◌<◌, ℕ, length, IfOk};
 ghost use Rattle.sq_algebra.specs.ZSet.{plus};
+ghost use Rattle.sq_circuit.specs.Along.{each_below};
 ghost use Rattle.sq_circuit.specs.Circuits.{table_at};
-ghost use Rattle.sq_circuit.specs.Invariant.{IsCircuit, is_table, table_count};
 ghost use Rattle.sq_engine.specs.Engines.{no_tables, with_changes};
 ghost use Rattle.sq_zset.specs.Range.{IsInRange};
 
-use sq_circuit::{Circuit, Node};
+use sq_circuit::Circuit;
 use sq_value::NoMemory;
 use sq_zset::{Group, ZFault, ZSet};
 use std::alloc::Global;
-
-fn is_table(node: &Node) -> bool
-    ensures { result ≡ is_table node.now }
-{
-    match node {
-        Node::Table { .. } => true,
-        Node::Linear { .. } => false,
-        Node::Join { .. } => false,
-        Node::Distinct { .. } => false,
-        Node::Aggregate { .. } => false,
-        Node::Plus { .. } => false,
-        Node::Minus { .. } => false,
-        Node::View { .. } => false,
-    }
-}
-
-/// How many tables a circuit has.
-pub fn table_count(circuit: &Circuit) -> u32
-    ensures count { result ≡ table_count circuit.now }
-    ensures sound { IsCircuit circuit.now }
-{
-    let mut count = 0;
-    for i in 0..circuit.len() {
-        if is_table(circuit.node(i)) {
-            count += 1;
-        }
-    }
-    count
-}
 
 /// A Z-set without rows for each table of the circuit.
 pub fn no_tables(alloc: Global, circuit: &Circuit) -> Result<Vec<ZSet>, NoMemory>
     ensures { IfOk result (λ tables. tables.items ≡ no_tables circuit.now) }
 {
     let mut tables = Vec::new(alloc);
-    for _table in 0..table_count(circuit) {
+    for _table in 0..circuit.table_count() {
         tables.push(ZSet::empty(alloc))?;
     }
     Ok(tables)
@@ -86,4 +57,16 @@ fn changed_table(
         Err(ZFault::Memory) => Err(NoMemory),
         Err(ZFault::Weight { .. }) => unreachable!(),
     }
+}
+
+/// A change for each of so many tables: the changes in order, and none for tables behind them.
+pub fn fitted(alloc: Global, tables: usize, changes: Vec<ZSet>) -> Result<Vec<ZSet>, NoMemory>
+    ensures { IfOk result (λ fitted. fitted.items ≡ each_below (λ t. table_at changes.items t) tables) }
+{
+    let mut fitted = changes;
+    fitted.truncate(tables);
+    while fitted.len() < tables {
+        fitted.push(ZSet::empty(alloc))?;
+    }
+    Ok(fitted)
 }

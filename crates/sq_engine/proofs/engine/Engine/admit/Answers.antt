@@ -8,12 +8,12 @@ use Rattle.sq_engine.proofs.Admitted.{good_made}
 use Rattle.sq_engine.proofs.engine.Engine.admit.Goals as goal
 
 pub first_absent-requires : goal.first_absent-requires
-first_absent-requires c =
+first_absent-requires g c =
     let is : c.deref.result.now ≡ c.args.self.now.tables = c.deref.ensures.value ∙ ap (λ (s : State). s.tables) c.self.view_is in
     subst (λ ts. AllByRecursion (λ (u : Update). u.table < length ts) c.args.updates.now) (sym is) c.requires.fits.inside
 
 pub returns-clause-good : goal.returns-clause-good
-returns-clause-good c =
+returns-clause-good g c =
     let done : made c.args.self.now.tables c.args.updates.now ≡ Ok (with_changes c.args.self.now.tables c.in_ok-changes.changes.items) = search rules in
     let sound : IsCircuit c.args.self.now.circuit = subst (λ (s : State). IsCircuit s.circuit) c.self.view_is c.in_ok-changes.ensures.sound in
     let good : IsGood c.args.self.now.circuit c.args.self.now.tables = subst (λ (s : State). IsGood s.circuit s.tables) c.self.view_is c.self.invariant.good in
