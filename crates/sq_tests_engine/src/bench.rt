@@ -5,6 +5,7 @@ ghost use Rattle.sq_engine.specs.Engines.{moved, with_changes};
 ghost use Rattle.sq_tests_engine.specs.Totals.{AreOfNumbers, IsNew, IsOfNumbers, IsReady};
 
 use crate::circuit::totals_of_numbers;
+use sq_base::Steps;
 use sq_circuit::Changes;
 use sq_engine::{AdmitRefusal, Delta, Engine, TickRefusal};
 use sq_typed::Update;
@@ -35,7 +36,10 @@ pub fn start(alloc: Global, engine: &mut Engine) -> Result<Changes, TickRefusal>
     requires { IsNew engine.old }
     ensures { OnOk result (IsReady 0 engine.new) }
 {
-    engine.start(alloc)
+    let mut steps = Steps::begin(());
+    let result = engine.start(alloc, &mut steps);
+    steps.end();
+    result
 }
 
 // The update that puts a row of this number in, or takes one away.
@@ -97,7 +101,10 @@ fn play(
     requires more { length updates.now ≤ 1000 }
     ensures { OnOk result (IsReady (rows + length updates.now) engine.new) }
 {
-    match engine.admit(alloc, updates) {
+    let mut steps = Steps::begin(());
+    let admitted = engine.admit(alloc, updates, &mut steps);
+    steps.end();
+    match admitted {
         Ok(delta) => play_delta(alloc, engine, delta),
         Err(AdmitRefusal::Absent { line }) => Ok(Answer::Absent(line)),
         Err(AdmitRefusal::Memory) => Err(NoMemory),
@@ -109,7 +116,10 @@ fn play_delta(alloc: Global, engine: &mut Engine, delta: Delta) -> Result<Answer
     requires good { IsGood engine.old.circuit (with_changes engine.old.tables delta) }
     ensures { (engine.new ≡ moved engine.old delta) ⊎ (engine.new ≡ engine.old) }
 {
-    match engine.tick(alloc, delta) {
+    let mut steps = Steps::begin(());
+    let result = engine.tick(alloc, delta, &mut steps);
+    steps.end();
+    match result {
         Ok(changes) => Ok(Answer::Changed(changes)),
         Err(TickRefusal::Range { view }) => Ok(Answer::Range(view)),
         Err(TickRefusal::Memory) => Err(NoMemory),

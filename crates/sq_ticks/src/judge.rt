@@ -5,6 +5,7 @@ ghost use Rattle.sq_plan.specs.Program.{IsPlanOf};
 ghost use Rattle.sq_engine.specs.Engines.{fresh};
 ghost use Rattle.sq_ticks.specs.Judgements.{Starts};
 
+use crate::counted;
 use sq_circuit::{Changes, Circuit};
 use sq_compile::{CompileFault, compile};
 use sq_engine::{Engine, TickRefusal};
@@ -59,7 +60,7 @@ fn start(alloc: Global, program: Program, engine: Engine) -> Result<Judged, NoMe
     ensures starts { IfOk result (Starts engine.shards) }
 {
     let mut engine = engine;
-    match engine.start(alloc) {
+    match counted::start(alloc, &mut engine) {
         Ok(changes) => Ok(Judged {
             program,
             engine,

@@ -4,6 +4,7 @@
 //! The views are those of the engine (`sq_engine`), over the circuit that the planner makes of the program (`sq_plan`).
 #![tactic(auto)]
 
+mod counted;
 mod judge;
 pub mod laws;
 mod play;

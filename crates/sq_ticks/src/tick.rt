@@ -6,6 +6,7 @@ ghost use Rattle.sq_typed.specs.Tables.{Tables};
 ghost use Rattle.sq_ticks.specs.Over.{first_bad as first_bad_lem, updates_in_front as updates_in_front_lem};
 ghost use Rattle.sq_ticks.specs.Runs.{IsEndedBy, IsPlayed, Stands, refuses, told_outcome};
 
+use crate::counted::{admit, tick};
 use sq_catalog::Catalog;
 use sq_circuit::Changes;
 use sq_compile::view_name;
@@ -53,7 +54,7 @@ pub fn play_tick(
         → IfOk result (λ outcome. IsPlayed program.now lists n engine.old lines.items outcome engine.new) }
 {
     let (updates, bad) = updates_in_front(alloc, lines)?;
-    let delta = match engine.admit(alloc, &updates) {
+    let delta = match admit(alloc, engine, &updates) {
         Ok(delta) => delta,
         Err(AdmitRefusal::Absent { line }) => {
             return Ok(Outcome::Refused(Refusal::Absent { line }));
@@ -93,7 +94,7 @@ fn end_tick(
     requires good { IsGood engine.old.circuit (with_changes engine.old.tables delta) }
     ensures { IfOk result (λ outcome. IsEndedBy program.now engine.old delta outcome engine.new) }
 {
-    match engine.tick(alloc, delta) {
+    match tick(alloc, engine, delta) {
         Ok(changes) => Ok(Outcome::Accepted(changes)),
         Err(TickRefusal::Range { view }) => {
             let view = view_name(alloc, program.catalog(), view)?;
