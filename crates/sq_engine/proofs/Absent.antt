@@ -10,14 +10,15 @@ use Rattle.sq_algebra.specs.ZSet.{weight}
 use Rattle.sq_zset.proofs.Rows.{weight-from_pairs, weight-plus}
 use Rattle.sq_typed.specs.declared.update.Update.{Update}
 use Rattle.sq_circuit.specs.Circuits.{table_at}
+use Rattle.sq_circuit.specs.Invariant.{table_count}
 use Rattle.sq_circuit.specs.Nodes.{Rows}
+use Rattle.sq_circuit.specs.declared.circuit.Part.{Part}
+use Rattle.sq_circuit.proofs.Alongside.{each-length}
+use Rattle.sq_states.specs.declared.kept.NodeState.{NodeState}
+use Rattle.sq_tables.specs.Tables.{table_in, tables_in}
 use Rattle.sq_engine.specs.Admitting.{count_at, lacks, made, net, netted, step_at}
 use Rattle.sq_engine.specs.Engines.{with_changes}
 use Rattle.sq_engine.proofs.Netting.{made_lacks, made_next, net_small, now_by, now_none, table_by, weight_next}
-
--- the table of an update is there
-pub inside_at : (tables : List Rows) (us : List Update) (i : ℕ) (u : Update) → AllByRecursion (λ u. u.table < length tables) us → i < length us → u ≡ get_or us i u → u.table < length tables
-inside_at tables us i u each low is = subst (λ (v : Update). v.table < length tables) (sym is) (All-from_recursion (λ (v : Update). v.table < length tables) us each i u low)
 
 -- the first i updates found their rows, and are counted
 pub record IsGoing (tables : List Rows) (us : List Update) (i : ℕ) (counts : List (BTreeMap (List Value) ℤ)) : Type 0 where
@@ -79,3 +80,25 @@ module _ (tables : List Rows) (us : List Update) (i : ℕ) (counts : List (BTree
             ∙ made_next tables (take i us) (drop (i + 1) us) u (lacks_by ∙ sym told ∙ found)
             ∙ ap (λ vs. made (now_by tables vs) (drop (i + 1) us)) (sym front);
       }
+
+-- ---- tables in states
+pub tables_there : (c : List Part) (states : List (List NodeState)) → length (tables_in c states) ≡ table_count c
+tables_there c states = each-length (table_in states) (table_count c)
+
+module _ (c : List Part) (states : List (List NodeState)) (us : List Update) (each : AllByRecursion (λ u. u.table < table_count c) us) (i : ℕ) (counts : List (BTreeMap (List Value) ℤ)) (done : IsGoing (tables_in c states) us i counts)
+    (u : Update) (low : i < length us) (is : u ≡ get_or us i u) where
+  pub in_circuit : u.table < table_count c
+  in_circuit = subst (λ (v : Update). v.table < table_count c) (sym is) (All-from_recursion (λ (v : Update). v.table < table_count c) us each i u low)
+
+  pub in_states : u.table < length (tables_in c states)
+  in_states = subst (λ n. u.table < n) (sym (tables_there c states)) in_circuit
+
+  pub in_counts : u.table < length counts
+  in_counts = subst (λ n. u.table < n) (sym done.many) in_states
+
+  pub not_often : length us < 2 ^ 62 → unsigned_abs (count_at counts u.table u.row) < 2 ^ 62
+  not_often short = few (tables_in c states) us i counts done u.table u.row in_states short
+
+-- one more step at most
+pub one_step : (old before now i : ℕ) → before ≤ old + i → now ≤ before + 1 → now ≤ old + (i + 1)
+one_step old before now i so_far step = omega (arith, so_far, step)

@@ -26,10 +26,12 @@ use Rattle.sq_states.specs.declared.kept.NodeState.{NodeState}
 use Rattle.sq_states.specs.declared.ready.Ready.{Ready}
 use Rattle.sq_incr.specs.Ready.{IsReady, Keeps}
 use Rattle.sq_incr.proofs.Beginning.{starts_ready}
-use Rattle.sq_engine.specs.Engines.{IsKept, State, begun, fresh, moved, no_tables, view_node, views_between, views_over, with_changes}
+use Rattle.sq_engine.specs.Engines.{IsKept, State, fresh, no_tables, view_node, views_between, views_over, with_changes}
 use Rattle.sq_engine.specs.Ticking.{AreAllPut, IsPrepared, node_change}
 use Rattle.sq_engine.proofs.Readied.{keeps_after}
-use Rattle.sq_engine.proofs.Listing.{each_got, each_past, each_same, past_tables, plus_none}
+use Rattle.sq_tables.specs.Tables.{HoldTables, tables_in}
+use Rattle.sq_tables.proofs.Standing.{each_same, hold_tables, tables_begun, tables_kept}
+use Rattle.sq_engine.proofs.Listing.{each_got, each_past, past_tables, plus_none}
 
 -- ---- tables without rows are good
 pub total_none : total none ≡ pos 0
@@ -60,9 +62,13 @@ good_none c = record {
 }
 
 -- ---- a new engine
-pub kept_fresh : (c : List Part) (tables : List Rows) (states : List (List NodeState)) (totals : List ℤ) (workers : ℕ) → 1 ≤ workers → workers ≤ 64 → length c < 2 ^ 26 → tables ≡ no_tables c → states ≡ replicate workers (empty_states c)
-    → totals ≡ replicate (length c) (pos 0) → IsKept (record { circuit = c; started = false; tables = tables; shards = length states }) states totals
-kept_fresh c tables states totals workers some few nodes is empty nothing =
+pub tables_fresh : (c : List Part) (states : List (List NodeState)) (workers : ℕ) → states ≡ replicate workers (empty_states c) → tables_in c states ≡ no_tables c
+tables_fresh c states workers is = ap (tables_in c) is ∙ tables_begun c workers
+
+pub kept_fresh : (c : List Part) (states : List (List NodeState)) (totals : List ℤ) (workers : ℕ) → 1 ≤ workers → workers ≤ 64 → length c < 2 ^ 26 → states ≡ replicate workers (empty_states c)
+    → totals ≡ replicate (length c) (pos 0) → IsKept (record { circuit = c; started = false; tables = tables_in c states; shards = length states }) states totals
+kept_fresh c states totals workers some few nodes empty nothing =
+    let is = tables_fresh c states workers empty in
     let many : length states ≡ workers = ap length empty ∙ length-replicate workers (empty_states c) in
     record {
       some = omega (arith, many, some);
@@ -76,9 +82,10 @@ kept_fresh c tables states totals workers some few nodes is empty nothing =
       keeps = λ e. absurd (cc e);
     }
 
-pub fresh_is : (c : List Part) (tables : List Rows) (states : List (List NodeState)) (workers : ℕ) → tables ≡ no_tables c → states ≡ replicate workers (empty_states c)
-    → ◌≡◌ {A = State} (record { circuit = c; started = false; tables = tables; shards = length states }) (fresh c workers)
-fresh_is c tables states workers is empty =
+pub fresh_is : (c : List Part) (states : List (List NodeState)) (workers : ℕ) → states ≡ replicate workers (empty_states c)
+    → ◌≡◌ {A = State} (record { circuit = c; started = false; tables = tables_in c states; shards = length states }) (fresh c workers)
+fresh_is c states workers empty =
+    let is = tables_fresh c states workers empty in
     let many : length states ≡ workers = ap length empty ∙ length-replicate workers (empty_states c) in
     λ i. record { circuit = c; started = false; tables = is i; shards = many i }
 
@@ -141,16 +148,24 @@ moved_views c r old new was is = ap₂ (λ a b. views_between c a b) was is
 -- ---- what was prepared, in place
 module _ {c : List Part} (circuit : IsCircuit c) {states : List (List NodeState)} {totals : List ℤ} {changes : List Rows} {first : Bool} (r : IsReady c states totals changes first) (ready : List (List Ready)) (sums : List ℤ) (views : List Rows)
     (p : IsPrepared r ready sums views) where
-  pub kept_after : (now : List (List NodeState)) → AreAllPut states ready now → length c < 2 ^ 26 → (tables : List Rows) → tables ≡ r.new → IsKept (record { circuit = c; started = true; tables = tables; shards = length now }) now sums
-  kept_after now put nodes tables is =
-      kept_started c tables now sums (subst (λ n. 0 < n) (sym put.count) r.some) (subst (λ n. n ≤ 64) (sym put.count) r.few) nodes (subst (IsGood c) (sym is) r.good) (ap (verdict c) is ∙ p.played.clear)
+  -- the states have the new tables
+  pub tables_after : (now : List (List NodeState)) → AreAllPut states ready now → tables_in c now ≡ r.new
+  tables_after now put = tables_kept c r.new now sums circuit (keeps_after circuit r ready sums views p now put) (subst (λ n. 0 < n) (sym put.count) r.some) r.good.count
+
+  pub kept_after : (now : List (List NodeState)) → AreAllPut states ready now → length c < 2 ^ 26 → IsKept (record { circuit = c; started = true; tables = tables_in c now; shards = length now }) now sums
+  kept_after now put nodes =
+      let is = tables_after now put in
+      kept_started c (tables_in c now) now sums (subst (λ n. 0 < n) (sym put.count) r.some) (subst (λ n. n ≤ 64) (sym put.count) r.few) nodes (subst (IsGood c) (sym is) r.good) (ap (verdict c) is ∙ p.played.clear)
       (subst (λ ts. Keeps false c ts now sums) (sym is) (keeps_after circuit r ready sums views p now put))
+
+-- ---- updates
+-- the states of an engine that has started hold its tables
+pub tables_held : (c : List Part) (states : List (List NodeState)) (totals : List ℤ) (started : Bool) → IsKept (record { circuit = c; started = started; tables = tables_in c states; shards = length states }) states totals → started ≡ true
+    → IsCircuit c → HoldTables c (tables_in c states) states
+tables_held c states totals started kept is circuit = hold_tables c (tables_in c states) states totals circuit (kept.keeps is) kept.some kept.few
 
 -- ---- a tick
 module _ (tables delta changes : List Rows) (is : changes ≡ each_below (λ t. table_at delta t) (length tables)) where
-  pub with_fitted : with_changes tables changes ≡ with_changes tables delta
-  with_fitted = each_same _ _ (length tables) (λ t low. ap (λ z. plus (table_at tables t) z) (ap (λ zs. table_at zs t) is ∙ each_got (λ t. table_at delta t) (length tables) t low))
-
   pub changed_fitted : AreChanged false tables (table_at changes) (with_changes tables delta)
   changed_fitted t = step (cases_lt t (length tables))
     where

@@ -1,5 +1,4 @@
 pub mod Listing
-pub mod Sounding
 pub mod Keeping
 pub mod Netting
 pub mod Admitted

@@ -1,8 +1,7 @@
 -- Lists by number: parts that pass a test are not more than all; members by number; tables with their changes.
-use Rattle.std.proofs.Common.{◌≡◌, ℕ, zero, suc, ◌+◌, ◌-◌, ◌<◌, ◌≤◌, Bool, true, false, cond, List, [], ◌∷◌, ◌++◌, length, get_or, ◌+ℤ◌, Some, refl, sym, ap, ap₂, ◌∙◌, arith}
+use Rattle.std.proofs.Common.{◌≡◌, ℕ, zero, suc, ◌<◌, ◌≤◌, Bool, true, false, cond, List, [], ◌∷◌, length, ◌+ℤ◌, Some, refl, ap, ap₂, ◌∙◌, arith}
 use Rattle.std.specs.Prelude.{slice_get}
 use Rattle.std.specs.List.{filter}
-use Rattle.std.proofs.lemmas.List.{get_or_default}
 use Rattle.std.proofs.lemmas.Option.{same_Some}
 use borrow.Author.Differences.{ints}
 use Rattle.sq_algebra.specs.ZSet.{plus, weight}
@@ -27,10 +26,6 @@ module _ (test : Node → Bool) where
   ]
 
 -- ---- members by number
-pub each_same : {A : Type 0} (f g : ℕ → A) (n : ℕ) → ((i : ℕ) → i < n → f i ≡ g i) → each_below f n ≡ each_below g n
-each_same f g zero same = refl
-each_same f g (suc n) same = ap₂ (λ xs x. xs ++ x ∷ []) (each_same f g n (λ i low. same i (omega arith))) (same n (omega arith))
-
 got : (zs : List Rows) (t : ℕ) (z : Rows) → slice_get zs t ≡ Some z → table_at zs t ≡ z
 got [] t z is = absurd (cc is)
 got (y ∷ zs) zero z is = same_Some y z is
@@ -57,8 +52,3 @@ same_tables (x ∷ xs) (y ∷ ys) many same = ap₂ (λ z zs. z ∷ zs) (same ze
 -- ---- a table with a change
 pub plus_none : (z : Rows) → plus z none ≡ z
 plus_none z = same_weights (plus z none) z (λ row. let sum = weight-plus row z none in let nothing = weight-zero row in sum ∙ ap (λ w. weight row z +ℤ w) nothing ∙ omega (arith, ints))
-
--- a table without a change stays
-pub stays : (tables changes : List Rows) (t : ℕ) (z d : Rows) → t < length tables → length changes ≤ t → z ≡ get_or tables t d → z ≡ plus (table_at tables t) (table_at changes t)
-stays tables changes t z d low past is =
-    is ∙ sym (get_or_default tables t none d low) ∙ sym (plus_none (table_at tables t)) ∙ sym (ap (λ y. plus (table_at tables t) y) (past_tables changes t past))

@@ -18,7 +18,8 @@ use Rattle.sq_circuit.specs.Nodes.{Rows, none}
 use Rattle.sq_circuit.proofs.Alongside.{each-length}
 use Rattle.sq_engine.specs.Admitting.{lacks, made, net, netted, signed, step_at}
 use Rattle.sq_engine.specs.Engines.{with_changes}
-use Rattle.sq_engine.proofs.Listing.{each_got, each_same, plus_none, same_tables}
+use Rattle.sq_tables.proofs.Standing.{each_same}
+use Rattle.sq_engine.proofs.Listing.{each_got, plus_none, same_tables}
 
 -- ---- updates one after the other
 pub net_append : (t : ℕ) (us vs : List Update) → net t (us ++ vs) ≡ plus (net t us) (net t vs)

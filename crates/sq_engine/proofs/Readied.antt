@@ -1,8 +1,7 @@
 -- What is prepared of a tick, and what the states keep once that was put in place.
-use Rattle.std.proofs.Common.{◌≡◌, ℕ, zero, suc, ◌+◌, ◌<◌, ◌≤◌, ◌^◌, ◌*◌, Bool, true, false, List, [], ◌∷◌, length, map, ℤ, pos, ◌+ℤ◌, unsigned_abs, Some, None, refl, sym, ap, ap₂, subst, subst₂, ◌∙◌, arith}
+use Rattle.std.proofs.Common.{◌≡◌, ℕ, suc, ◌+◌, ◌<◌, ◌≤◌, ◌^◌, Bool, true, false, List, [], ◌∷◌, length, map, ℤ, ◌+ℤ◌, unsigned_abs, Some, refl, sym, ap, ap₂, subst, ◌∙◌, arith}
 use Rattle.std.specs.Int.{int_wrap, w128}
 use Rattle.std.specs.Prelude.{slice_get}
-use Rattle.std.specs.List.{sum_by}
 use Rattle.std.proofs.lemmas.List.Sums.{sum_by-cons}
 use Rattle.std.proofs.lemmas.Int.{fits_signed_from_abs, int_wrap_fits}
 use Rattle.std.proofs.lemmas.Option.{same_Some, slice_get-get_or, slice_get_within}
@@ -11,12 +10,12 @@ use Rattle.sq_value.specs.declared.value.Value.{Value}
 use Rattle.sq_value.specs.Order.{row_cmp}
 use Rattle.sq_algebra.specs.Groups.{integers, sum_over, z_sets}
 use Rattle.sq_algebra.specs.Keyed.{numbers_below, over_shards}
-use Rattle.sq_algebra.specs.ZSet.{entries, int_sum_by, minus, total}
+use Rattle.sq_algebra.specs.ZSet.{entries, int_sum_by, total}
 use Rattle.sq_algebra.proofs.AbelianLemmas.{sum_over-map}
 use Rattle.sq_zset.specs.Collecting.{mass_of}
 use Rattle.sq_zset.specs.Range.{IsInRange}
 use Rattle.sq_circuit.specs.Along.{each_below}
-use Rattle.sq_circuit.specs.Circuits.{table_at, verdict, whole}
+use Rattle.sq_circuit.specs.Circuits.{table_at, whole}
 use Rattle.sq_circuit.specs.Costs.{before}
 use Rattle.sq_circuit.specs.Invariant.{IsCircuit, IsSoundAt, is_view, view_count}
 use Rattle.sq_circuit.specs.Nodes.{Rows}
@@ -26,7 +25,7 @@ use Rattle.sq_circuit.proofs.Composing.{pieces_add_up}
 use Rattle.sq_circuit.proofs.Owning.{all_sound}
 use Rattle.sq_shard.proofs.Parting.{numbers_are}
 use Rattle.sq_shard.specs.Shards.{shards}
-use Rattle.sq_states.specs.Committing.{CanCommit, IsReadyFor, state_after}
+use Rattle.sq_states.specs.Committing.{IsReadyFor}
 use Rattle.sq_states.specs.Keeps.{IsChanged}
 use Rattle.sq_states.specs.declared.kept.NodeState.{NodeState}
 use Rattle.sq_states.specs.declared.piece.Piece.{Piece}
@@ -35,7 +34,7 @@ use Rattle.sq_incr.specs.Commits.{AreCommitted}
 use Rattle.sq_incr.specs.Inputs.{summed}
 use Rattle.sq_incr.specs.Orders.{task}
 use Rattle.sq_incr.specs.Played.{HasPiece, IsPlayed}
-use Rattle.sq_incr.specs.Ready.{IsKept, IsReady, Keeps}
+use Rattle.sq_incr.specs.Ready.{IsReady, Keeps}
 use Rattle.sq_incr.specs.Slots.{change_in, is_run, piece_at}
 use Rattle.sq_incr.specs.declared.store.Slot.{Slot}
 use Rattle.sq_incr.specs.declared.store.Slot.TheVariants.{Open, Skipped, Broken, Ran}
@@ -49,7 +48,8 @@ use Rattle.sq_incr.proofs.Ordering.{got_number, length-numbers}
 use Rattle.sq_incr.proofs.Taking.{earlier, tick, was_sound}
 use Rattle.sq_engine.specs.Engines.{view_node}
 use Rattle.sq_engine.specs.Ticking.{AreAllPut, CanPrepareAll, CanPutAll, EachAt, IsPrepared, IsRaised, IsReadyNode, IsReadyShard, line_at, line_total, node_change}
-use Rattle.sq_engine.proofs.Listing.{each_same, none_past}
+use Rattle.sq_tables.proofs.Standing.{each_same}
+use Rattle.sq_engine.proofs.Listing.{none_past}
 
 -- ---- pieces
 same_ran : (p q : Piece) → Ran p ≡ Ran q → p ≡ q

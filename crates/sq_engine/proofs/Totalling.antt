@@ -1,11 +1,10 @@
 -- The total of a node with those of its pieces, shard by shard.
-use Rattle.std.proofs.Common.{◌≡◌, ℕ, zero, suc, ◌+◌, ◌<◌, ◌≤◌, List, [], ◌∷◌, ◌++◌, get_or, length, take, ℤ, pos, ◌+ℤ◌, SFits, Some, refl, sym, ap, subst, ◌∙◌, arith}
+use Rattle.std.proofs.Common.{◌≡◌, ℕ, zero, suc, ◌+◌, ◌<◌, ◌≤◌, List, [], ◌∷◌, length, take, ℤ, pos, ◌+ℤ◌, SFits, Some, refl, sym, ap, ◌∙◌, arith}
 use Rattle.std.specs.Int.{int_wrap, w128}
 use Rattle.std.specs.Prelude.{slice_get}
 use Rattle.std.proofs.lemmas.Int.{int_wrap-add_left, int_wrap_fits}
 use Rattle.std.proofs.lemmas.Option.{get_or_from_slice_get, same_Some, slice_get-get_or}
 use borrow.Author.Differences.{ints}
-use Rattle.sq_algebra.specs.Groups.{integers, sum_over}
 use Rattle.sq_algebra.specs.ZSet.{total}
 use Rattle.sq_incr.specs.Slots.{change_in}
 use Rattle.sq_incr.specs.declared.store.Slot.{Slot}

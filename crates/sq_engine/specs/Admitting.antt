@@ -5,9 +5,11 @@
 --     step_at t row u         what an update adds to the weight of a row in a table
 --     lacks tables u          it deletes a row of which its table has no copy
 --     made tables us          the tables after the updates in order, or the line of the first that lacks its row
+--     Makes tables us         each of the updates finds its row
 --     inserted t us           how many of the updates put a row into the table t
 --     MayAdmit s us           updates that speak of the tables of an engine, with rows of their kinds, and not too many
 --     count_of, count_at      what is counted of a row in a map, and in that of a table
+--     is_gone tables counts u     with what is counted, an update lacks its row
 --     in_z_sets, outcome      the Z-sets of lists of rows, and of what updates make of lists
 --     AreOfLists              tables that are the Z-sets of some lists, with updates that speak of these
 use Rattle.std.specs.Prelude.{◌≡◌, ℕ, ◌<◌, ◌^◌, ◌==◌, ◌&&◌, Bool, not, if◌then◌else◌, List, [], ◌∷◌, length, map, slice_get, ℤ, pos, negsuc, ◌+ℤ◌, ◌≤ℤ◌, int_lt, Option, Some, None}
@@ -49,6 +51,10 @@ abbrev pub made : List Rows → List Update → Result (List Rows) ℕ
 made tables [] = Ok tables
 made tables (u ∷ us) = if lacks tables u then Err u.line else made (with_changes tables (netted (length tables) (u ∷ []))) us
 
+-- each update finds its row
+abbrev pub Makes : List Rows → List Update → Type 0
+Makes tables us = made tables us ≡ Ok (with_changes tables (netted (length tables) us))
+
 -- ---- which updates may be asked for
 abbrev pub inserted : ℕ → List Update → ℕ
 inserted t us = length (filter (λ u. u.insert && (u.table == t)) us)
@@ -73,6 +79,10 @@ counts_in (Some counts) row = count_of counts row
 -- what is counted of a row in the map of a table
 abbrev pub count_at : List (BTreeMap (List Value) ℤ) → ℕ → List Value → ℤ
 count_at maps t row = counts_in (slice_get maps t) row
+
+-- whether an update deletes a row of which its table, with what is counted, has no copy
+abbrev pub is_gone : List Rows → List (BTreeMap (List Value) ℤ) → Update → Bool
+is_gone tables counts u = not u.insert && not (int_lt (pos 0) (weight u.row (table_at tables u.table) +ℤ count_at counts u.table u.row))
 
 -- ---- tables as lists
 abbrev pub in_z_sets : Tables → List Rows

@@ -9,24 +9,22 @@
 --     ArePut before ready now       it was put in place in a shard.     AreAllPut .. in all shards
 --     CanPrepareAll nodes states pieces      each piece can be prepared in the state of its shard
 --     IsPrepared r ready sums views          what is prepared of a tick
-use Rattle.std.specs.Prelude.{◌≡◌, ℕ, ◌<◌, ℤ, ◌+ℤ◌, Bool, List, [], get_or, length, slice_get, Some, None}
+use Rattle.std.specs.Prelude.{◌≡◌, ℕ, ℤ, ◌+ℤ◌, Bool, List, [], get_or, length, slice_get, Some}
 use Rattle.std.specs.Int.{int_wrap, w128}
 use Rattle.std.specs.List.{flat_map}
 use Rattle.sq_algebra.specs.Groups.{integers, sum_over}
 use Rattle.sq_algebra.specs.Keyed.{numbers_below}
 use Rattle.sq_algebra.specs.ZSet.{minus, total}
 use Rattle.sq_circuit.specs.Along.{each_below}
-use Rattle.sq_circuit.specs.Circuits.{verdict, whole}
+use Rattle.sq_circuit.specs.Circuits.{whole}
 use Rattle.sq_circuit.specs.Costs.{before}
 use Rattle.sq_circuit.specs.Invariant.{view_count}
 use Rattle.sq_circuit.specs.Nodes.{Rows}
 use Rattle.sq_circuit.specs.declared.circuit.Part.{Part}
 use Rattle.sq_states.specs.Committing.{CanCommit, IsReadyFor, StaysInRange, state_after}
-use Rattle.sq_states.specs.Keeps.{IsChanged}
 use Rattle.sq_states.specs.declared.kept.NodeState.{NodeState}
 use Rattle.sq_states.specs.declared.piece.Piece.{Piece}
 use Rattle.sq_states.specs.declared.ready.Ready.{Ready}
-use Rattle.sq_incr.specs.Inputs.{summed}
 use Rattle.sq_incr.specs.Orders.{task, tasks_of}
 use Rattle.sq_incr.specs.Played.{HasPiece, IsPlayed}
 use Rattle.sq_incr.specs.Ready.{IsKept, IsReady}

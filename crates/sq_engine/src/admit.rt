@@ -1,42 +1,47 @@
 //! What the updates of a tick change in the tables, and the first that deletes a row which is not there.
-ghost use Rattle.std.specs.Prelude.{◌≡◌, ◌<◌, ◌≤◌, ◌^◌, ◌+◌, ◌++◌, ◌∷◌, [], ◌+ℤ◌, ℕ, List, pos, length, map, unsigned_abs, if◌then◌else◌, int_lt, not, ◌&&◌, ◌==◌, Ok, Some, None, IfOk, OnOk};
+ghost use Rattle.std.specs.Prelude.{◌≡◌, ◌<◌, ◌≤◌, ◌^◌, ◌+◌, ◌++◌, ◌∷◌, [], ◌+ℤ◌, ℕ, List, pos, length, map, unsigned_abs, if◌then◌else◌, ◌==◌, Ok, Some, None, IfOk, OnOk};
 ghost use Rattle.std.specs.List.{AllByRecursion, filter};
 ghost use Rattle.std.specs.Ordering.{is_eq};
-ghost use Rattle.std.specs.declared.result.Result.TheVariants.{Ok as Made, Err as Lacking};
+ghost use Rattle.std.specs.declared.result.Result.TheVariants.{Err as Lacking};
 ghost use Rattle.sq_value.specs.declared.value.Value.{Value as Datum};
 ghost use Rattle.sq_value.specs.Order.{row_cmp};
 ghost use Rattle.sq_algebra.specs.ZSet.{weight};
-ghost use Rattle.sq_circuit.specs.Circuits.{table_at};
 ghost use Rattle.sq_circuit.specs.Invariant.{IsCircuit, table_count};
-ghost use Rattle.sq_engine.specs.Admitting.{count_at, count_of, made, net, netted, signed, step_at};
-ghost use Rattle.sq_engine.specs.Engines.{with_changes};
+ghost use Rattle.sq_engine.specs.Admitting.{Makes, count_at, count_of, is_gone, made, net, netted, signed, step_at};
+ghost use Rattle.sq_tables.specs.Tables.{HoldTables, tables_in};
 ghost use Rattle.sq_zset.specs.Pairs.{mass, weighted_rows};
 
 use sq_base::Steps;
 use sq_circuit::Circuit;
+use sq_states::States;
+use sq_tables::weight_of;
 use sq_typed::Update;
 use sq_value::{NoMemory, Row};
 use sq_zset::{Pair, ZFault, ZSet};
 use std::alloc::Global;
 use std::collections::BTreeMap;
 
-/// The line of the first update that deletes a row of which its table has no copy left then, if there is one. Each delete takes a
-/// step, in which its row is looked up.
+/// The line of the first update that deletes a row of which its table has no copy left then, if there is one. Takes one step for
+/// each update at most.
+///
+/// The states are those of 1 to 64 shards, which hold the tables.
 pub fn first_absent<L>(
     alloc: Global,
-    tables: &[ZSet],
+    circuit: &Circuit,
+    states: &[States],
     updates: &[Update],
     steps: &mut Steps<L>,
 ) -> Result<Option<u64>, NoMemory>
-    requires { AllByRecursion (λ u. u.table < length tables.now) updates.now }
-    ensures none { result ≡ Ok None → made tables.now updates.now ≡ Made (with_changes tables.now (netted (length tables.now) updates.now)) }
-    ensures some { (line : ℕ) → result ≡ Ok (Some line) → made tables.now updates.now ≡ Lacking line }
+    requires inside { AllByRecursion (λ u. u.table < table_count circuit.now) updates.now }
+    requires holds { HoldTables circuit.now (tables_in circuit.now states.now) states.now }
+    ensures none { result ≡ Ok None → Makes (tables_in circuit.now states.now) updates.now }
+    ensures some { (line : ℕ) → result ≡ Ok (Some line) → made (tables_in circuit.now states.now) updates.now ≡ Lacking line }
     ensures cost { steps.new.count ≤ steps.old.count + length updates.now }
     ensures ledger { steps.new.ledger ≡ steps.old.ledger }
 {
-    let mut counts = no_counts(alloc, tables.len())?;
+    let mut counts = no_counts(alloc, circuit.table_count() as usize)?;
     for update in updates {
-        if is_absent(tables, &counts, update, steps) {
+        if is_absent(alloc, circuit, states, &counts, update, steps)? {
             return Ok(Some(update.line));
         }
         count(alloc, &mut counts, update)?;
@@ -44,26 +49,28 @@ pub fn first_absent<L>(
     Ok(None)
 }
 
-// Whether the update deletes a row of which its table, with what is counted, has no copy.
+// Whether the update deletes a row of which its table, with what is counted, has no copy. Takes one step at most.
 fn is_absent<L>(
-    tables: &[ZSet],
+    alloc: Global,
+    circuit: &Circuit,
+    states: &[States],
     counts: &[BTreeMap<Row, i64>],
     update: &Update,
     steps: &mut Steps<L>,
-) -> bool
-    requires table { update.now.table < length tables.now }
+) -> Result<bool, NoMemory>
+    requires table { update.now.table < table_count circuit.now }
+    requires holds { HoldTables circuit.now (tables_in circuit.now states.now) states.now }
     requires counted { update.now.table < length counts.now }
-    requires small { unsigned_abs (count_at counts.now update.now.table update.now.row) < 2 ^ 62 }
-    ensures told { result ≡ (not update.now.insert && not (int_lt (pos 0) (weight update.now.row (table_at tables.now update.now.table) +ℤ count_at counts.now update.now.table update.now.row))) }
+    ensures ok { IfOk result (λ absent. absent ≡ is_gone (tables_in circuit.now states.now) counts.now update.now) }
     ensures cost { steps.new.count ≤ steps.old.count + 1 }
     ensures ledger { steps.new.ledger ≡ steps.old.ledger }
 {
     if update.insert {
-        return false;
+        return Ok(false);
     }
-    let number = update.table as usize;
-    steps.tick();
-    tables[number].weight_of(&update.row) + count_of(&counts[number], &update.row) <= 0
+    let copies = weight_of(alloc, circuit, states, update.table, &update.row, steps)?;
+    let counted = count_of(&counts[update.table as usize], &update.row);
+    Ok(i128::from(copies) + i128::from(counted) <= 0)
 }
 
 // Counts the row of an update in the map of its table.

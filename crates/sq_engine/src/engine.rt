@@ -10,7 +10,7 @@ ghost use Rattle.sq_engine.specs.Engines.{begun, fresh, moved, no_tables, views_
 use crate::admit::{first_absent, netted};
 use crate::fresh::{empty_shards, no_totals};
 use crate::ready::commit_all;
-use crate::tables::{changed_tables, fitted, no_tables};
+use crate::tables::{fitted, no_tables};
 use crate::tick::{Prepared, prepare_tick};
 use crate::{AdmitRefusal, TickRefusal};
 use sq_base::Steps;
@@ -43,14 +43,14 @@ impl Model for Delta {
 
 /// A circuit over tables that change tick by tick.
 ///
-/// Contracts see it as its circuit, whether it has started, its tables as Z-sets, and its number of shards. The tables are
-/// good for the circuit; before the start they have no rows, and later no view is out of range over them.
+/// Contracts see it as its circuit, whether it has started, its tables as Z-sets, and its number of shards. The tables are those
+/// that its states hold; no list of them is kept. They are good for the circuit; before the start they have no rows, and later no
+/// view is out of range over them.
 #[derive(Debug, Drop)]
 pub struct Engine {
     circuit: Circuit,
     started: bool,
-    tables: Vec<ZSet>,
-    // What the nodes keep in each shard.
+    // What the nodes keep in each shard. Its Table nodes hold the tables.
     states: Vec<States>,
     // The total of each node.
     totals: Vec<i128>,
@@ -61,15 +61,16 @@ impl Model for Engine {
     ghost use Rattle.std.specs.Coded.{coded_list};
     ghost use Rattle.sq_circuit.specs.contracts.circuit.Part as part;
     ghost use Rattle.sq_engine.specs.Engines.{IsKept, State, state_code};
+    ghost use Rattle.sq_tables.specs.Tables.{tables_in};
     ghost use Rattle.sq_zset.specs.contracts.zset.ZSet as zset;
 
     ghost Value = { State };
 
     ghost coded = { state_code (coded_list (part.the_row).coded) (coded_list (zset.the_row).coded) };
 
-    ghost view = { λ e. record { circuit = e.circuit; started = e.started; tables = e.tables.items; shards = length e.states.items } };
+    ghost view = { λ e. record { circuit = e.circuit; started = e.started; tables = tables_in e.circuit e.states.items; shards = length e.states.items } };
 
-    ghost invariant = { λ e. IsKept (record { circuit = e.circuit; started = e.started; tables = e.tables.items; shards = length e.states.items }) e.states.items e.totals.items };
+    ghost invariant = { λ e. IsKept (record { circuit = e.circuit; started = e.started; tables = tables_in e.circuit e.states.items; shards = length e.states.items }) e.states.items e.totals.items };
 }
 
 impl Engine {
@@ -81,13 +82,11 @@ impl Engine {
         requires nodes { length circuit < 2 ^ 26 }
         ensures { IfOk result (λ engine. engine ≡ fresh circuit workers) }
     {
-        let tables = no_tables(alloc, &circuit)?;
         let states = empty_shards(alloc, &circuit, workers)?;
         let totals = no_totals(alloc, circuit.len())?;
         Ok(Engine {
             circuit,
             started: false,
-            tables,
             states,
             totals,
         })
@@ -114,12 +113,13 @@ impl Engine {
         ensures cost { steps.new.count ≤ steps.old.count + cost true self.old.circuit (no_tables self.old.circuit) (no_tables self.old.circuit) }
         ensures ledger { steps.new.ledger ≡ steps.old.ledger }
     {
+        let changes = no_tables(alloc, &self.circuit)?;
         let prepared = prepare_tick(
             alloc,
             &self.circuit,
             &self.states,
             &self.totals,
-            &self.tables,
+            &changes,
             true,
             steps,
         )?;
@@ -154,7 +154,8 @@ impl Engine {
         ensures cost { steps.new.count ≤ steps.old.count + length updates.now }
         ensures ledger { steps.new.ledger ≡ steps.old.ledger }
     {
-        if let Some(line) = first_absent(alloc, &self.tables, updates, steps)? {
+        let _ = self.circuit.len();
+        if let Some(line) = first_absent(alloc, &self.circuit, &self.states, updates, steps)? {
             return Err(AdmitRefusal::Absent { line });
         }
         let changes = netted(alloc, &self.circuit, updates)?;
@@ -183,8 +184,7 @@ impl Engine {
         ensures cost { steps.new.count ≤ steps.old.count + cost false self.old.circuit self.old.tables delta }
         ensures ledger { steps.new.ledger ≡ steps.old.ledger }
     {
-        let changes = fitted(alloc, self.tables.len(), delta.changes)?;
-        let tables = changed_tables(alloc, &self.tables, &changes)?;
+        let changes = fitted(alloc, self.circuit.table_count() as usize, delta.changes)?;
         let prepared = prepare_tick(
             alloc,
             &self.circuit,
@@ -201,7 +201,6 @@ impl Engine {
         } = prepared;
         commit_all(&mut self.states, ready);
         self.totals = sums;
-        self.tables = tables;
         Ok(Changes { views })
     }
 }

@@ -1,66 +1,51 @@
-use Rattle.std.proofs.Common.{rules, ◌≡◌, ◌<◌, ◌^◌, not, ◌&&◌, length, pos, ◌+ℤ◌, unsigned_abs, refl, subst, sym, ap, ◌∙◌, arith}
-use Rattle.std.specs.Prelude.{int_lt}
+-- The first update that lacks its row.
+use Rattle.std.proofs.Common.{rules, ◌≡◌, ◌<◌, ◌^◌, List, ℤ, length, refl, subst, sym, ap, ◌∙◌, arith}
+use Rattle.std.specs.BTreeMap.{BTreeMap}
 use Rattle.std.specs.declared.result.Result.TheVariants.{Err}
-use Rattle.sq_algebra.specs.ZSet.{weight}
-use Rattle.sq_circuit.specs.Circuits.{table_at}
-use Rattle.sq_engine.specs.Admitting.{count_at}
-use Rattle.sq_engine.proofs.Absent.{begun, few, inside_at, next, stopped}
+use Rattle.sq_value.specs.declared.value.Value.{Value}
+use Rattle.sq_tables.specs.Tables.{tables_in}
+use Rattle.sq_engine.specs.Admitting.{is_gone}
+use Rattle.sq_engine.proofs.Absent.{begun, in_counts, in_states, next, not_often, one_step, stopped, tables_there}
 use Rattle.sq_engine.proofs.admit.first_absent.Goals as goal
 
 pub loop-update-init : goal.loop-update-init
-loop-update-init g c = (begun c.args.tables.now c.args.updates.now c.in_ok-counts.counts.items c.in_ok-counts.ensures.many c.in_ok-counts.ensures.none, omega arith, refl)
+loop-update-init g c = (
+  begun (tables_in c.args.circuit.now c.args.states.now) c.args.updates.now c.in_ok-counts.counts.items
+      (c.in_ok-counts.ensures.many ∙ c.table_count.ensures.count ∙ sym (tables_there c.args.circuit.now c.args.states.now)) c.in_ok-counts.ensures.none,
+  omega arith,
+  refl,
+)
 
-pub is_absent-requires-clause-small : goal.is_absent-requires-clause-small
-is_absent-requires-clause-small g c =
-    let low = inside_at c.args.tables.now c.args.updates.now c.loop-update.update-index c.update-item.result c.requires c.loop-update-test.true c.update-item.is in
-    let short : length c.args.updates.now < 2 ^ 62 = search rules in
-    subst (λ counts. unsigned_abs (count_at counts c.update-item.result.table c.update-item.result.row) < 2 ^ 62) (sym c.deref.ensures.value)
-    (few c.args.tables.now c.args.updates.now c.loop-update.update-index c.loop-update.counts.items c.loop-update.invariant.0 c.update-item.result.table c.update-item.result.row low short)
+pub is_absent-requires-clause-counted : goal.is_absent-requires-clause-counted
+is_absent-requires-clause-counted g c =
+    subst (λ (counts : List (BTreeMap (List Value) ℤ)). c.update-item.result.table < length counts) (sym c.deref.ensures.value)
+    (in_counts c.args.circuit.now c.args.states.now c.args.updates.now c.requires.inside c.loop-update.update-index c.loop-update.counts.items c.loop-update.invariant.0 c.update-item.result c.loop-update-test.true c.update-item.is)
 
-pub returns-then-is_absent-clause-some : goal.returns-then-is_absent-clause-some
-returns-then-is_absent-clause-some g c line e =
-    let low = inside_at c.args.tables.now c.args.updates.now c.loop-update.update-index c.update-item.result c.requires c.loop-update-test.true c.update-item.is in
-    let told : c.is_absent.result ≡ (not c.update-item.result.insert && not (int_lt (pos 0) (weight c.update-item.result.row (table_at c.args.tables.now c.update-item.result.table) +ℤ count_at c.loop-update.counts.items c.update-item.result.table c.update-item.result.row))) =
-    subst (λ counts. c.is_absent.result ≡ (not c.update-item.result.insert && not (int_lt (pos 0) (weight c.update-item.result.row (table_at c.args.tables.now c.update-item.result.table) +ℤ count_at counts c.update-item.result.table c.update-item.result.row)))) c.deref.ensures.value c.is_absent.ensures.told in
+pub returns-then-branch-clause-some : goal.returns-then-branch-clause-some
+returns-then-branch-clause-some g c line e =
+    let there = in_states c.args.circuit.now c.args.states.now c.args.updates.now c.requires.inside c.loop-update.update-index c.loop-update.counts.items c.loop-update.invariant.0 c.update-item.result c.loop-update-test.true c.update-item.is in
+    let told : c.in_ok-is_absent.field-0 ≡ is_gone (tables_in c.args.circuit.now c.args.states.now) c.loop-update.counts.items c.update-item.result =
+    c.in_ok-is_absent.ensures.ok ∙ ap (λ counts. is_gone (tables_in c.args.circuit.now c.args.states.now) counts c.update-item.result) c.deref.ensures.value in
     let same : c.update-item.result.line ≡ line = cc e in
-    stopped c.args.tables.now c.args.updates.now c.loop-update.update-index c.loop-update.counts.items c.loop-update.invariant.0 c.update-item.result c.loop-update-test.true c.update-item.is low
-    c.is_absent.result told c.if-is_absent.true ∙ ap Err same
+    stopped (tables_in c.args.circuit.now c.args.states.now) c.args.updates.now c.loop-update.update-index c.loop-update.counts.items c.loop-update.invariant.0 c.update-item.result c.loop-update-test.true c.update-item.is there
+    c.in_ok-is_absent.field-0 told c.if-branch.true ∙ ap Err same
+
+pub count-requires-clause-inside : goal.count-requires-clause-inside
+count-requires-clause-inside g c =
+    in_counts c.args.circuit.now c.args.states.now c.args.updates.now c.requires.inside c.loop-update.update-index c.loop-update.counts.items c.loop-update.invariant.0 c.update-item.result c.loop-update-test.true c.update-item.is
 
 pub count-requires-clause-small : goal.count-requires-clause-small
 count-requires-clause-small g c =
-    let low = inside_at c.args.tables.now c.args.updates.now c.loop-update.update-index c.update-item.result c.requires c.loop-update-test.true c.update-item.is in
     let short : length c.args.updates.now < 2 ^ 62 = search rules in
-    few c.args.tables.now c.args.updates.now c.loop-update.update-index c.loop-update.counts.items c.loop-update.invariant.0 c.update-item.result.table c.update-item.result.row low short
+    not_often c.args.circuit.now c.args.states.now c.args.updates.now c.requires.inside c.loop-update.update-index c.loop-update.counts.items c.loop-update.invariant.0 c.update-item.result c.loop-update-test.true c.update-item.is short
 
 pub loop-update-preserved : goal.loop-update-preserved
 loop-update-preserved g c =
-    let low = inside_at c.args.tables.now c.args.updates.now c.loop-update.update-index c.update-item.result c.requires c.loop-update-test.true c.update-item.is in
-    let told : c.is_absent.result ≡ (not c.update-item.result.insert && not (int_lt (pos 0) (weight c.update-item.result.row (table_at c.args.tables.now c.update-item.result.table) +ℤ count_at c.loop-update.counts.items c.update-item.result.table c.update-item.result.row))) =
-    subst (λ counts. c.is_absent.result ≡ (not c.update-item.result.insert && not (int_lt (pos 0) (weight c.update-item.result.row (table_at c.args.tables.now c.update-item.result.table) +ℤ count_at counts c.update-item.result.table c.update-item.result.row)))) c.deref.ensures.value c.is_absent.ensures.told in
-    let before = c.loop-update.invariant.1 in
-    let more = c.is_absent.ensures.cost in (
-      next c.args.tables.now c.args.updates.now c.loop-update.update-index c.loop-update.counts.items c.loop-update.invariant.0 c.update-item.result c.loop-update-test.true c.update-item.is low
-          c.is_absent.result told c.if-is_absent.false c.count.new.counts.items c.in_ok-count.ensures.many c.in_ok-count.ensures.more,
-      omega (arith, before, more),
+    let there = in_states c.args.circuit.now c.args.states.now c.args.updates.now c.requires.inside c.loop-update.update-index c.loop-update.counts.items c.loop-update.invariant.0 c.update-item.result c.loop-update-test.true c.update-item.is in
+    let told : c.in_ok-is_absent.field-0 ≡ is_gone (tables_in c.args.circuit.now c.args.states.now) c.loop-update.counts.items c.update-item.result =
+    c.in_ok-is_absent.ensures.ok ∙ ap (λ counts. is_gone (tables_in c.args.circuit.now c.args.states.now) counts c.update-item.result) c.deref.ensures.value in (
+      next (tables_in c.args.circuit.now c.args.states.now) c.args.updates.now c.loop-update.update-index c.loop-update.counts.items c.loop-update.invariant.0 c.update-item.result c.loop-update-test.true c.update-item.is there
+          c.in_ok-is_absent.field-0 told c.if-branch.false c.count.new.counts.items c.in_ok-count.ensures.many c.in_ok-count.ensures.more,
+      one_step c.args.steps.now.count c.loop-update.steps.count c.is_absent.new.steps.count c.loop-update.update-index c.loop-update.invariant.1 c.is_absent.ensures.cost,
       c.is_absent.ensures.ledger ∙ c.loop-update.invariant.2,
     )
-
-pub returns-then-is_absent-clause-cost : goal.returns-then-is_absent-clause-cost
-returns-then-is_absent-clause-cost g c =
-    let before = c.loop-update.invariant.1 in
-    let more = c.is_absent.ensures.cost in
-    let inside = c.loop-update-test.true in
-    omega (arith, before, more, inside)
-
-pub returns-then-is_absent-clause-ledger : goal.returns-then-is_absent-clause-ledger
-returns-then-is_absent-clause-ledger g c = c.is_absent.ensures.ledger ∙ c.loop-update.invariant.2
-
-pub returns-in_err-count-clause-cost : goal.returns-in_err-count-clause-cost
-returns-in_err-count-clause-cost g c =
-    let before = c.loop-update.invariant.1 in
-    let more = c.is_absent.ensures.cost in
-    let inside = c.loop-update-test.true in
-    omega (arith, before, more, inside)
-
-pub returns-in_err-count-clause-ledger : goal.returns-in_err-count-clause-ledger
-returns-in_err-count-clause-ledger g c = c.is_absent.ensures.ledger ∙ c.loop-update.invariant.2

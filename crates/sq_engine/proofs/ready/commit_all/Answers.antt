@@ -1,5 +1,5 @@
-use Rattle.std.proofs.Common.{◌≡◌, length, subst, sym, ap, ◌∙◌, Some}
-use Rattle.std.specs.Prelude.{slice_get, slice_set}
+use Rattle.std.proofs.Common.{length, ap, ◌∙◌}
+use Rattle.std.specs.Prelude.{slice_set}
 use Rattle.sq_zset.proofs.Collecting.{no_items}
 use Rattle.sq_engine.specs.Ticking.{ArePut}
 use Rattle.sq_engine.proofs.Putting.{found, going_end, going_start, shard_can, shard_inside, shard_turn}

@@ -1,4 +1,4 @@
-use Rattle.std.proofs.Common.{◌≡◌, length, ◌∙◌, arith}
+use Rattle.std.proofs.Common.{◌∙◌, arith}
 use Rattle.sq_engine.proofs.Fitted.{fitted_end, fitted_start, fitted_turn}
 use Rattle.sq_engine.proofs.tables.fitted.Goals as goal
 

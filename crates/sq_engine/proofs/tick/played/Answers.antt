@@ -1,5 +1,4 @@
-use Rattle.std.proofs.Common.{◌≡◌, ◌^◌, ◌<◌, length, Err, Some, subst, sym, ap, ◌∙◌, arith}
-use Rattle.sq_circuit.specs.Circuits.{verdict}
+use Rattle.std.proofs.Common.{length, Err, Some, subst, ap, ◌∙◌}
 use Rattle.sq_incr.specs.Played.{Answers}
 use Rattle.sq_engine.proofs.Ordered.{few_tasks, no_illegal, no_missing}
 use Rattle.sq_engine.proofs.Spent.{played_cost}

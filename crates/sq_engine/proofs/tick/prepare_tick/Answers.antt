@@ -1,4 +1,4 @@
-use Rattle.std.proofs.Common.{◌≡◌, length, subst, sym, ap, ◌∙◌}
+use Rattle.std.proofs.Common.{subst, sym}
 use Rattle.sq_engine.specs.Ticking.{CanPrepareAll}
 use Rattle.sq_engine.proofs.Readied.{all_prepared, can_prepare, summed_fits}
 use Rattle.sq_engine.proofs.tick.prepare_tick.Goals as goal

@@ -1,4 +1,4 @@
-use Rattle.std.proofs.Common.{rules, ◌≡◌, ◌<◌, ◌+◌, length, ℤ, pos, ◌+ℤ◌, SFits, to_z, to_z-of_z, subst, sym, ap, ◌∙◌, arith}
+use Rattle.std.proofs.Common.{rules, ◌+◌, ◌+ℤ◌, SFits, to_z, to_z-of_z, subst, sym, ap, ◌∙◌, arith}
 use Rattle.std.specs.Int.{int_wrap, w128}
 use Rattle.sq_incr.proofs.Noting.{there_is}
 use Rattle.sq_engine.proofs.Totalling.{IsFront, front_end, front_start, front_turn}

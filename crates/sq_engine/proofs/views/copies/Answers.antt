@@ -1,5 +1,4 @@
-use Rattle.std.proofs.Common.{◌≡◌, ◌<◌, ◌≤◌, List, [], length, map, get_or, subst, sym, ap, ◌∙◌, arith}
-use Rattle.std.proofs.lemmas.Option.{get_or_from_slice_get}
+use Rattle.std.proofs.Common.{map, ap, ◌∙◌, arith}
 use Rattle.sq_incr.specs.Slots.{change_in}
 use Rattle.sq_incr.proofs.Noting.{one_more_mapped, there_is}
 use Rattle.sq_engine.specs.Ticking.{line_at}

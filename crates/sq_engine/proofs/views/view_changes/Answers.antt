@@ -1,4 +1,4 @@
-use Rattle.std.proofs.Common.{◌≡◌, length, sym, ap, ◌∙◌, arith}
+use Rattle.std.proofs.Common.{arith}
 use Rattle.sq_circuit.specs.Invariant.{is_view}
 use Rattle.sq_engine.proofs.Listing.{none_past}
 use Rattle.sq_engine.proofs.views.view_changes.Goals as goal

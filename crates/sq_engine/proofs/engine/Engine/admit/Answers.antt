@@ -5,12 +5,19 @@ use Rattle.sq_circuit.specs.Invariant.{IsCircuit, IsGood, table_count}
 use Rattle.sq_engine.specs.Admitting.{made, netted}
 use Rattle.sq_engine.specs.Engines.{State, with_changes}
 use Rattle.sq_engine.proofs.Admitted.{good_made}
+use Rattle.sq_engine.proofs.Keeping.{tables_held}
+use Rattle.sq_tables.specs.Tables.{HoldTables, tables_in}
 use Rattle.sq_engine.proofs.engine.Engine.admit.Goals as goal
 
-pub first_absent-requires : goal.first_absent-requires
-first_absent-requires g c =
-    let is : c.deref.result.now ≡ c.args.self.now.tables = c.deref.ensures.value ∙ ap (λ (s : State). s.tables) c.self.view_is in
-    subst (λ ts. AllByRecursion (λ (u : Update). u.table < length ts) c.args.updates.now) (sym is) c.requires.fits.inside
+pub first_absent-requires-clause-inside : goal.first_absent-requires-clause-inside
+first_absent-requires-clause-inside g c =
+    let many : length c.args.self.now.tables ≡ table_count c.self.inside.circuit = ap (λ (s : State). length s.tables) (sym c.self.view_is) ∙ c.self.invariant.good.count in
+    subst (λ n. AllByRecursion (λ (u : Update). u.table < n) c.args.updates.now) many c.requires.fits.inside
+
+pub first_absent-requires-clause-holds : goal.first_absent-requires-clause-holds
+first_absent-requires-clause-holds g c =
+    subst (λ states. HoldTables c.self.inside.circuit (tables_in c.self.inside.circuit states) states) (sym c.deref.ensures.value)
+    (tables_held c.self.inside.circuit c.self.inside.states.items c.self.inside.totals.items c.self.inside.started c.self.invariant (ap (λ (s : State). s.started) c.self.view_is ∙ c.requires.started) c.len.ensures.sound)
 
 pub returns-clause-good : goal.returns-clause-good
 returns-clause-good g c =
