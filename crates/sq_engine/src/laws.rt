@@ -10,6 +10,8 @@ ghost use Rattle.sq_engine.specs.Engines.{State, moved, with_changes};
 ghost use Rattle.sq_typed.specs.Tables.{Tables, after};
 ghost use Rattle.sq_typed.specs.declared.update.Update.{Update as Change};
 
+use crate::{AdmitRefusal, Delta, Engine, TickRefusal};
+
 /// Updates make of the Z-sets of some tables what they make of the tables, row by row: the Z-sets of the tables after them, or the
 /// line of the first that deletes a row which is not there.
 pub fn updates_of_z_sets_are_updates_of_lists()
@@ -28,3 +30,17 @@ pub fn engines_follow_lists()
 pub fn tables_grow_by_what_is_put_in()
     ensures { (tables : List Rows) (updates : List Change) (t : ℕ) → total (table_at (with_changes tables (netted (length tables) updates)) t) ≤ℤ (total (table_at tables t) +ℤ pos (inserted t updates)) }
 {}
+
+fn is_send_and_sync<T: Send + Sync>() {}
+
+// An engine may be handed to another thread, and be shared.
+fn engines_cross_threads() {
+    is_send_and_sync::<Engine>();
+}
+
+// So may changes of its tables, and why it refuses.
+fn changes_and_refusals_cross_threads() {
+    is_send_and_sync::<Delta>();
+    is_send_and_sync::<AdmitRefusal>();
+    is_send_and_sync::<TickRefusal>();
+}
