@@ -4,3 +4,6 @@ mod Accepting
 mod Ranges
 mod Compiling
 mod Printing
+mod Raising
+mod Writing
+mod Playing

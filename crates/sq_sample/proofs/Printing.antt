@@ -41,6 +41,12 @@ module _ (c : List Part) (plan : IsPlanOf program c) where
   unfolding views
   five_nodes = (plan.views ([] ∷ [] ∷ []) (tt, (tt, tt))).many
 
+  pub five_starts : (tables : List Rows) → length (views_over c tables) ≡ 5
+  five_starts tables = ap (λ n. length (each_below (λ v. whole c tables (view_node c v)) n)) five_nodes
+
+  pub five_changes : (old new : List Rows) → length (views_between c old new) ≡ 5
+  five_changes old new = ap (λ n. length (each_below (λ v. minus (whole c new (view_node c v)) (whole c old (view_node c v))) n)) five_nodes
+
   abbrev five_totals : List Rows → List ℤ
   five_totals tables =
       total (whole c tables (view_node c 0)) ∷ total (whole c tables (view_node c 1)) ∷ total (whole c tables (view_node c 2))
