@@ -3,3 +3,4 @@ mod Reading
 mod Endings
 mod Serving
 mod Telling
+mod EnginesCross
